@@ -2,7 +2,7 @@
 pub use Rattle.std.proofs.Common.{ℕ, ◌≡◌, ◌+◌, ◌*◌, ◌<◌, ◌≤◌, ◌⊎◌, Bool, Some, is_some, List, [], ◌∷◌, ◌++◌, length, slice_index, inl, inr, refl, sym, ap, subst, ◌∙◌, arith, ◌-◌, min, true, false, nat_eq, ◌==◌, nat_lt, if◌then◌else◌, IsSome, suc, slice_index_or, zero, slice_set, ◌||◌, None, ◌&&◌, not, take, ◌↔◌, count_by, Option, append_assoc, append-nil, map, MatchBool, vec_len, vec_capacity}
 pub use Rattle.std.specs.List.{list_any, flat_map}
 pub use Rattle.std.proofs.Math.Nat.{mul-le-mul_right}
-pub use Rattle.std.proofs.lemmas.{Bool.{false≢true, cond_both, ltb-false, eqb-true, eqb-false, cases_lt, or_cases, cases_eq, and_parts, and_cases, ltb-true, or_left, or_right, eq-eqb, cases_Bool}, Cmp.nat_eq_equiv, List.{length_push, get_or_append_left, get_or_push, length-set, get_or_default, take_more, take_all, get_or-take, get_or-set_same, get_or-set_other, ext_get_or, map-append, length-map, get_or-map}}
+pub use Rattle.std.proofs.lemmas.{Bool.{false≢true, cond_both, ltb-false, eqb-true, eqb-false, cases_lt, or_cases, cases_eq, and_parts, and_cases, ltb-true, or_left, or_right, eq-eqb, cases_Bool}, Cmp.nat_eq_equiv, List.{length_push, get_or_append_left, get_or_push, length-set, get_or_default, take_more, take_all, get_or-take, ext_get_or, map-append, length-map, get_or-map}}
 pub use Rattle.std.proofs.lemmas.List.Folds.{list_any-append, Any-from_list_any}
 pub use Rattle.std.proofs.lemmas.Map.Keys.{IsDistinct-push}
 pub use Rattle.partial_intervals.specs.Intervals.{IsNormal, Ranges, lowest, highest, Holds, GoesOn}

@@ -1,5 +1,5 @@
 -- The marks of a list of indices: how many there are, and what is left of them while it is emptied.
-use Rattle.partial_active.proofs.Common.{ℕ, zero, suc, ◌≡◌, ◌+◌, ◌<◌, ◌≤◌, nat_eq, ◌==◌, Bool, true, false, if◌then◌else◌, ◌||◌, inl, inr, List, [], ◌∷◌, ◌++◌, length, slice_index_or, slice_index, slice_set, count_by, refl, sym, ◌∙◌, arith, false≢true, cases_eq, cases_Bool, or_cases, eqb-true, length-set, get_or-set_same, get_or-set_other, length_push, get_or_append_left, list_any-append, has_index, IsMarked}
+use Rattle.partial_active.proofs.Common.{ℕ, zero, suc, ◌≡◌, ◌+◌, ◌<◌, ◌≤◌, Bool, true, false, if◌then◌else◌, inl, inr, List, [], ◌∷◌, length, slice_index_or, slice_index, count_by, refl, sym, arith, false≢true, cases_Bool, has_index, IsMarked}
 use Rattle.std.proofs.lemmas.List.Sums.{count_by-le-length, sum_by-cons}
 
 marked_first : (marks : List Bool) → count_by (λ b. b) (true ∷ marks) ≡ 1 + count_by (λ b. b) marks
@@ -27,34 +27,6 @@ pub record IsEmptied (items : List ℕ) (marks : List Bool) (limit : ℕ) : Type
   pub kept : (j : ℕ) → j < length marks → slice_index_or marks j false ≡ true → has_index items j ≡ true
   pub below : (k : ℕ) → k < length items → slice_index items k < length marks
   pub same : length marks ≡ limit
-
-pub emptied_init : (items : List ℕ) (marks : List Bool) (room : ℕ) → IsMarked items marks room → IsEmptied items marks (length marks)
-emptied_init items marks room m = record {
-  kept = λ j lt is. sym (m.marked j lt) ∙ is;
-  below = m.below;
-  same = refl;
-}
-
-pub emptied_more : (items : List ℕ) (marks : List Bool) (limit index : ℕ) → IsEmptied (items ++ index ∷ []) marks limit → IsEmptied items (slice_set marks index false) limit
-emptied_more items marks limit index e = record {
-  kept = λ j lt is. elim (cases_eq j index) [
-    | inl here ↦
-        let within : index < length marks = omega (arith, length-set marks index false) in
-        absurd (false≢true (sym (get_or-set_same marks index false false within) ∙ rw here at is))
-    | inr other ↦
-        let was : slice_index_or marks j false ≡ true = sym (get_or-set_other marks index j false false other) ∙ is in
-        let had : (has_index items j || (nat_eq index j || false)) ≡ true = sym (list_any-append (λ i. nat_eq i j) items (index ∷ [])) ∙ e.kept j (omega (arith, length-set marks index false)) was in
-        elim (or_cases (has_index items j) (nat_eq index j || false) had) [
-          | inl before ↦ before
-          | inr last ↦ elim (or_cases (index == j) false last) [
-            | inl same ↦ absurd (other (sym (eqb-true index j same)))
-            | inr never ↦ absurd (false≢true never)
-          ]
-        ]
-  ];
-  below = λ k lt. omega (arith, length-set marks index false, get_or_append_left items (index ∷ []) 0 k lt, e.below k (omega (arith, length_push items index)));
-  same = length-set marks index false ∙ e.same;
-}
 
 pub emptied_all : (items left : List ℕ) (marks : List Bool) (limit room : ℕ) → IsEmptied items marks limit → length items ≡ 0 → length left ≡ 0 → limit ≤ room → IsMarked left marks room
 emptied_all (x ∷ items) left marks limit room e empty gone fits = absurd (omega arith)

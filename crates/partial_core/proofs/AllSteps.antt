@@ -145,12 +145,6 @@ module _ (z : Layout) (o : Opening) (m : PartAmong) (c : CoreState) (step : Step
   abbrev s : CoreState
   s = core_of (started c x)
 
-  abbrev a : ℕ
-  a = answer_of words step
-
-  abbrev entries : List Applied
-  entries = added_by z (port_of x) words step
-
   due_here : step_of (core_of (started c x)) ≡ Some step
   due_here = ap step_of (sym mine) ∙ due
 

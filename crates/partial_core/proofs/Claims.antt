@@ -50,9 +50,6 @@ module _ (z : Layout) (o : Opening) (m : PartAmong) (w : LawfulAmong z o m) wher
 
   -- the record of an update goes into words that are claimed for it, or into spare words
   module _ (c : Change) (old : ℕ) (e : s.stage ≡ ClaimingRecord c old) where
-    abbrev since : ℕ
-    since = joined_since x
-
     abbrev held : Holding
     held = holding_in (core_of x) (ClaimingRecord c old) (joined_since x)
 

@@ -1,6 +1,6 @@
 -- The names that several proofs of this crate take from elsewhere.
-pub use Rattle.std.proofs.Common.{subst, sym, ◌∙◌, List, ap, ℕ, ◌∷◌, ◌≡◌, arith, refl, ◌++◌, ◌≤◌, [], length, Some, true, ◌<◌, Bool, None, false, ◌+◌, Option, inl, inr, ◌==◌, ◌⊎◌, take, ◌≢◌, suc, IfSome, map, IsSome, slice_get, zero, append_assoc, length-append, min, MatchBool, drop, get_or-set_other, get_or-set_same, length-set, length-take, not, ◌&&◌, ◌-◌, ◌||◌}
-pub use Rattle.std.specs.{List.{AllByRecursion, IsDistinct}, Option.{option_map_or, option_map}, Prelude.{nat_lt, slice_index, Contains, IsTrue, if◌then◌else◌, is_some, nat_eq, slice_index_or, replicate, ⊤}}
+pub use Rattle.std.proofs.Common.{subst, sym, ◌∙◌, List, ap, ℕ, ◌∷◌, ◌≡◌, arith, refl, ◌++◌, ◌≤◌, [], length, Some, true, ◌<◌, Bool, None, false, ◌+◌, Option, inl, inr, ◌==◌, ◌⊎◌, take, ◌≢◌, suc, IfSome, map, IsSome, slice_get, zero, append_assoc, length-append, min, MatchBool, drop, get_or-set_other, get_or-set_same, length-take, not, ◌&&◌, ◌-◌, ◌||◌}
+pub use Rattle.std.specs.{List.{AllByRecursion, IsDistinct}, Option.option_map_or, Prelude.{nat_lt, slice_index, Contains, IsTrue, if◌then◌else◌, is_some, nat_eq, slice_index_or, replicate, ⊤}}
 pub use Rattle.std.proofs.lemmas.{Bool.{false≢true, eqb-true, ltb-true, cond_both, eq-eqb, ltb-false, ne_eqb, eqb-false, lt-ltb, or_cases}, List.{append-nil, take_all, length-map, length-replicate, length_push, take-append-le, map_push, set-get_or, take-append-drop, take_at}}
 pub use Rattle.std.proofs.lemmas.Bool.Decides.{eqb_tells}
 pub use Rattle.partial_model.specs.declared.history.{Applied.Applied, Opening.Opening}

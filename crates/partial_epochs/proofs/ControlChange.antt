@@ -23,9 +23,6 @@ module _ (e : Plan) (words : List ℕ) (cs : ℕ → Control) (now : Site) (hold
   none_some o e = cc
 
   -- a port that may put another isn't k
-  not_putter : (q j : ℕ) (a : Site) → MayPut (cs q) j a → q ≢ k
-  not_putter q j a may same = none_some may.owned (sym free ∙ sym (ap (λ i. (cs i).owned) same) ∙ may.is)
-
   pub putter : (q j : ℕ) (a : Site) → MayPut (cs' q) j a → MayPut (cs q) j a × (q ≢ k)
   putter q j a = put_all (λ i (d : Control). MayPut d j a → MayPut (cs i) j a × (i ≢ k)) k c cs q
       (λ _ may. absurd (none_some may.owned (sym free' ∙ may.is))) (λ ne may. (may, ne))

@@ -141,9 +141,6 @@ module _ (e : Plan) (words : List ℕ) (ports : ℕ → Port) (b : Beside) (k : 
         (at_set e words ports b k p' (slice_index words (at_word k)) w inside free free' goes stand later)
 
   module _ (c : Control) (v : ℕ) (free : (ports k).control.owned ≡ None) (free' : c.owned ≡ None) where
-    abbrev Going : Type 0
-    Going = Goes e (control_words e words) cs (site_now b) (numbers b) w.control k inside c v free free' long
-
     set_at : slice_index (slice_set (control_words e words) (at_word k) v) (at_word k) ≡ v
     set_at = own e (control_words e words) cs (site_now b) (numbers b) w.control k inside c v free free' long
 

@@ -119,11 +119,3 @@ count_one f g p (suc n) k low high e = elim (eqb_tells p k) [
       let here : ◌≡◌ {A = ℕ} (if g p then 1 else 0) (if f p then 1 else 0) = ap (λ (c : Bool). if c then 1 else 0) (e p ne) in
       omega (arith, rest, here)
 ]
-
--- a count of what is never so
-pub count_none : (f : ℕ → Bool) (p n : ℕ) → ((i : ℕ) → f i ≡ false) → count f p n ≡ 0
-count_none f p zero off = refl
-count_none f p (suc n) off =
-    let rest = count_none f (p + 1) n off in
-    let none : ◌≡◌ {A = ℕ} (if f p then 1 else 0) 0 = ap (λ (c : Bool). if c then 1 else 0) (off p) in
-    omega (arith, rest, none)

@@ -1,6 +1,6 @@
 -- Each due step of a machine in the arena where its port stands keeps the lawful state of all epochs.
 use Rattle.std.proofs.lemmas.Bool.{eq-eqb, ne_eqb}
-use Rattle.partial_epochs.proofs.{Common.{ℕ, ◌≡◌, ◌≢◌, ◌+◌, ◌*◌, ◌%◌, ◌^◌, ◌<◌, ◌≤◌, ◌==◌, ◌⊎◌, ◌++◌, Bool, true, false, if◌then◌else◌, Some, List, [], ◌∷◌, length, slice_index, slice_set, refl, sym, ap, subst, ◌∙◌, inl, inr, arith, ◌&&◌, ◌||◌, nat_lt, AllByRecursion, cases_lt, lt-ltb, eqb_tells, get_or-set_same, get_or-set_other, Applied, Opening, Step, Load, Store, Exchange, Add, Layout, total, pool_counter, slot_counter, greatest_claim, answer_of, word_of, words_after, steps_left, CoreState, advance, step_of, Part, PartAmong, IsMachineOf, port_of, IsReady, LeadsOn, added_by, lawful_machines_are_ready, steps_stay_lawful, count, list_of, put, Plan, arena_words, carried_words, component_words, based_step, opened_after, Port, Epoch, Beside, IsArena, IsStanding, LawfulEpochs, IsPresent, awaits_slot, claims_no_more, slot_limit, mul-le-mul_left, MachineLeads, MachineStepsStayLawful, MayClaim, MeetsSeal, ends_over, Stands, not_below, value_word}, Apart.{IsApart, due_apart}, Change.{Changes, beside_then, change_kept}, Lists.{Around, around_of, count_more, count_one, count_same, length_of, put_all, put_other, put_same}, Offsets.below_whole, Present.{by_seal, standing}, Slots.{MayClaimWords, awaits, awaits_same, counted, done, one}, Worded.{Words, worded}}
+use Rattle.partial_epochs.proofs.{Common.{ℕ, ◌≡◌, ◌≢◌, ◌+◌, ◌*◌, ◌%◌, ◌^◌, ◌<◌, ◌≤◌, ◌==◌, ◌⊎◌, ◌++◌, Bool, true, false, if◌then◌else◌, Some, List, [], ◌∷◌, length, slice_index, slice_set, refl, sym, ap, subst, ◌∙◌, inl, inr, arith, ◌&&◌, ◌||◌, nat_lt, AllByRecursion, cases_lt, lt-ltb, eqb_tells, get_or-set_same, get_or-set_other, Applied, Opening, Step, Load, Store, Exchange, Add, Layout, total, pool_counter, slot_counter, greatest_claim, answer_of, word_of, words_after, CoreState, advance, step_of, Part, PartAmong, IsMachineOf, port_of, LeadsOn, added_by, lawful_machines_are_ready, steps_stay_lawful, count, list_of, put, Plan, arena_words, carried_words, component_words, based_step, opened_after, Port, Epoch, Beside, IsArena, IsStanding, LawfulEpochs, IsPresent, awaits_slot, claims_no_more, slot_limit, mul-le-mul_left, MachineLeads, MachineStepsStayLawful, MayClaim, MeetsSeal, ends_over, Stands, not_below, value_word}, Apart.{IsApart, due_apart}, Change.{Changes, beside_then, change_kept}, Lists.{Around, around_of, count_more, count_one, count_same, length_of, put_all, put_other, put_same}, Offsets.below_whole, Present.{by_seal, standing}, Slots.{MayClaimWords, awaits, awaits_same, counted, done, one}, Worded.{Words, worded}}
 use Rattle.partial_core.specs.Lawful as one
 use Rattle.partial_core.specs.Steps.{Tells}
 
@@ -296,14 +296,6 @@ module _ (e : Plan) (words : List ℕ) (ports : ℕ → Port) (b : Beside) (k : 
         there (Store v u) low = let up = below_whole e x v (w.control.sites k below).arena (omega (arith, low)) in let count = w.count in omega (arith, up, count)
         there (Exchange v u n) low = let up = below_whole e x v (w.control.sites k below).arena (omega (arith, low)) in let count = w.count in omega (arith, up, count)
         there (Add v u) low = let up = below_whole e x v (w.control.sites k below).arena (omega (arith, low)) in let count = w.count in omega (arith, up, count)
-
-  -- the machine is sound, with the sizes of the plan
-  pub machine_ready : IsReady e.sizes c (r.part k)
-  machine_ready = lawful_machines_are_ready e.sizes o m c lawful_here machine_here
-
-  -- the machine has fewer steps left then
-  pub makes_fewer : steps_left (advance c (answer_of (arena_words e words (ports k).control.here.arena) step)) < steps_left c
-  makes_fewer = leads.tells.behind.fewer
 
   pub machine_kept : (MeetsSeal e (component_words e words (ports k).control.here.arena) step × (words_after words (based_step e (ports k).control.here.arena step) ≡ words))
       ⊎ MachineLeads e words ports b k c step

@@ -93,9 +93,6 @@ module _ (e : Plan) (words : List ℕ) (ports : ℕ → Port) (b : Beside) (note
   abbrev ports' : ℕ → Port
   ports' = put k lead.port ports
 
-  abbrev b' : Beside
-  b' = lead.beside
-
   abbrev x : Part
   x = (ports k).part
 
@@ -107,9 +104,6 @@ module _ (e : Plan) (words : List ℕ) (ports : ℕ → Port) (b : Beside) (note
 
   abbrev off : ℕ
   off = length (history_of (ports k).before)
-
-  abbrev slog : List Applied
-  slog = lead.standing.epoch.log
 
   abbrev o : Opening
   o = opened_after e.opening (ports k).before
@@ -136,9 +130,6 @@ module _ (e : Plan) (words : List ℕ) (ports : ℕ → Port) (b : Beside) (note
   seen_is = ap (λ (p : Part). p.seen) lead.tells.part
 
   -- the one history grows by the entries, with public stamps
-  abbrev grown : List Applied
-  grown = public_log (length b.before) lead.entries
-
   pub history_is : one_history lead.beside ≡ one_history b ++ public_log (length b.before) lead.entries
   history_is = ap (λ (l : List Applied). history_of (l ∷ lead.beside.before)) lead.log ∙ ap (λ (l : List (List Applied)). history_of ((b.log ++ lead.entries) ∷ l)) lead.epochs
       ∙ history_longer b.log lead.entries b.before

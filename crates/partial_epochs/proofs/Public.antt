@@ -1,5 +1,5 @@
 -- What is true of an epoch's history is true of the one history, with public stamps.
-use Rattle.partial_epochs.proofs.{Common.{ℕ, zero, suc, ◌≡◌, ◌≢◌, ◌+◌, ◌*◌, ◌<◌, ◌≤◌, ◌⊎◌, ◌++◌, Bool, if◌then◌else◌, Option, Some, None, IfSome, IsSome, List, [], ◌∷◌, length, map, take, slice_get, Contains, refl, sym, ap, subst, ◌∙◌, inl, inr, arith, length-append, AllByRecursion, option_map, option_map_or, lt-ltb, length-map, Applied, Opening, Call, Note, initial_stamp, last_entry, stamp_of, value_of, AreCollects, Fits, IsEntryFor, IsTrueOf, all_take, first_free, Plan, stamp_after, history_of, opened_after, public_entry, public_log, public_stamp, stamp_limit, IsEpochPlan, ExpectedOne, IsEpochHistory, public_answer, public_call, public_note, public_of, not_below}, Continue.{epochs_continue, history_took, last_all, many}}
+use Rattle.partial_epochs.proofs.{Common.{ℕ, zero, suc, ◌≡◌, ◌≢◌, ◌+◌, ◌*◌, ◌<◌, ◌≤◌, ◌⊎◌, ◌++◌, Bool, if◌then◌else◌, Option, Some, None, IfSome, IsSome, List, [], ◌∷◌, length, map, take, slice_get, Contains, refl, sym, ap, subst, ◌∙◌, inl, inr, arith, length-append, AllByRecursion, option_map, option_map_or, lt-ltb, length-map, Applied, Call, Note, initial_stamp, last_entry, stamp_of, value_of, AreCollects, Fits, IsEntryFor, IsTrueOf, all_take, first_free, Plan, stamp_after, history_of, opened_after, public_entry, public_log, public_stamp, stamp_limit, IsEpochPlan, ExpectedOne, IsEpochHistory, public_answer, public_call, public_note, public_of, not_below}, Continue.{epochs_continue, history_took, last_all, many}}
 use Rattle.partial_model.specs.declared.call.Answer.{Answer}
 
 -- the entry at a place after others
@@ -13,12 +13,6 @@ get_map g (y ∷ h) zero x is = ap (option_map g) is
 get_map g (y ∷ h) (suc k) x is = get_map g h k x is
 
 module _ (e : Plan) (plan : IsEpochPlan e) (before : List (List Applied)) (h : List Applied) (above : AllByRecursion (λ (a : Applied). first_free e.sizes ≤ a.stamp) h) where
-  abbrev o : Opening
-  o = opened_after e.opening before
-
-  abbrev off : ℕ
-  off = length (history_of before)
-
   abbrev g : ℕ
   g = length before
 

@@ -18,12 +18,6 @@ module _ (e : Plan) (words : List ℕ) (ports : ℕ → Port) (b : Beside) (k : 
   abbrev cs : ℕ → Control
   cs = controls ports
 
-  abbrev here : Site
-  here = (ports k).control.here
-
-  abbrev x : ℕ
-  x = o.arena
-
   own : IsOwner e (control_words e words) (controls ports) (site_now b) (numbers b) k o
   own = subst (λ (t : Option OwnedArena). IfSome t (IsOwner e (control_words e words) (controls ports) (site_now b) (numbers b) k)) whole.owned (w.control.owners k below)
 

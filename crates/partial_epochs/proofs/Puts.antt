@@ -5,12 +5,6 @@ use Rattle.partial_epochs.proofs.{Common.{ℕ, ◌≡◌, ◌≢◌, ◌+◌, �
 module _ (e : Plan) (words : List ℕ) (cs : ℕ → Control) (now : Site) (holds : ℕ → Option ℕ) (w : LawfulControl e words cs now holds) (k : ℕ) (below : k < e.ports) (o : OwnedArena) (a : Site)
     (few : e.arenas ≤ arena_limit) (long : length words ≡ control_size e) (owned : (cs k).owned ≡ Some o) (within : o.clean < e.ports) (none : o.set ≡ 0) (looked : o.looked ≡ true)
     (mark : o.mark ≡ Some a) (again : o.again ≡ true) (there : slice_index words (at_word o.clean) ≡ marked a) where
-  abbrev q : ℕ
-  q = o.clean
-
-  abbrev here : Site
-  here = (cs k).here
-
   abbrev words' : List ℕ
   words' = slice_set words (at_word o.clean) (packed (cs k).here)
 

@@ -131,9 +131,6 @@ module _ (e : Plan) (words : List ℕ) (ports : ℕ → Port) (b : Beside) (k : 
   mine : IsOwner e (control_words e words) (controls ports) (site_now b) (numbers b) k o
   mine = own e (control_words e words) (controls ports) (site_now b) (numbers b) w.control k below o owned done
 
-  abbrev spot : ℕ
-  spot = set_word e o.arena o.set
-
   spot_is : (j : ℕ) × (j < span e) × (set_word e o.arena o.set ≡ base e o.arena + j)
   spot_is = let pool = w.plan.sizes.pool.0 in set_index e o.arena o.set pool more
 

@@ -1,5 +1,5 @@
 -- Slots past the slot limit are claimed by ports that claim no more.
-use Rattle.partial_epochs.proofs.{Common.{ℕ, ◌≡◌, ◌+◌, ◌*◌, ◌%◌, ◌^◌, ◌<◌, ◌≤◌, ◌==◌, ◌⊎◌, Bool, true, false, if◌then◌else◌, Option, Some, None, List, length, slice_index, refl, sym, ap, subst, ◌∙◌, inl, inr, arith, ⊤, nat_lt, is_some, option_map_or, cases_lt, lt-ltb, get_or-set_same, get_or-set_other, mul-le-mul_left, some_same, Step, Load, Store, Exchange, Add, Layout, list_counter, pool_counter, pool_end, slot_counter, slot_word, greatest_claim, words_after, CoreState, advance, advance_at, after_joining, at_stage, begin_getting, expects, claim_size, getting, record_size, scanning, step_at, step_of, with_getting, with_scanning, is_at_rest, is_begun, IsSound, is_sound_at, IsMachineOf, Part, core_of, Plan, count, Epoch, IsArena, IsEpochPlan, awaits_at, awaits_slot, is_claiming, announcement_size, join_after, join_step, JoinStage, Claiming, Storing, Joined, Spent, Change, Stage, Idle, ReadBegun, LoadingValue, UpdateBegun, GettingSet, Viewing, ClaimingRecord, StoringRecord, Exchanging, ScanBegun, StoringAnnouncement, Joining, Scanning, Leaving, Finished, record_cases, record_step_cases, view_loads, Reply}, Apart.IsApart, Lists.count_few}
+use Rattle.partial_epochs.proofs.{Common.{ℕ, ◌≡◌, ◌+◌, ◌*◌, ◌%◌, ◌^◌, ◌<◌, ◌≤◌, ◌==◌, ◌⊎◌, Bool, true, false, if◌then◌else◌, Option, Some, None, List, length, slice_index, refl, sym, ap, subst, ◌∙◌, inl, inr, arith, ⊤, nat_lt, is_some, option_map_or, cases_lt, lt-ltb, get_or-set_same, get_or-set_other, mul-le-mul_left, some_same, Step, Load, Store, Exchange, Add, Layout, list_counter, pool_counter, pool_end, slot_counter, slot_word, greatest_claim, words_after, CoreState, advance, advance_at, after_joining, at_stage, begin_getting, expects, claim_size, getting, record_size, scanning, step_at, step_of, with_getting, with_scanning, is_at_rest, is_begun, IsSound, is_sound_at, IsMachineOf, Part, core_of, Plan, count, Epoch, IsArena, IsEpochPlan, awaits_at, awaits_slot, is_claiming, announcement_size, join_after, join_step, JoinStage, Claiming, Storing, Joined, Spent, Stage, Idle, ReadBegun, LoadingValue, UpdateBegun, GettingSet, Viewing, ClaimingRecord, StoringRecord, Exchanging, ScanBegun, StoringAnnouncement, Joining, Scanning, Leaving, Finished, record_cases, record_step_cases, view_loads, Reply}, Apart.IsApart, Lists.count_few}
 use Rattle.partial_active.specs.declared.get_set.Stage.{Stage as SetStage}
 use Rattle.partial_active.specs.declared.get_set.Stage.TheVariants as set_stage
 use Rattle.partial_active.specs.GetSet as finding
@@ -12,10 +12,6 @@ awaits s = awaits_at s s.stage
 
 abbrev pub one : Bool → ℕ
 one b = if b then 1 else 0
-
-pub one_few : (b : Bool) → one b ≤ 1
-one_few true = omega arith
-one_few false = omega arith
 
 -- a step that claims neither a slot nor words of the pool
 abbrev IsQuiet : Layout → Step → Type 0
@@ -140,9 +136,6 @@ module _ (s : CoreState) (sound : IsSound s) (words : List ℕ) (slots_there : s
   -- where the port awaits a slot before, a quiet step may leave what it will
   loud : (t : Stage) (step : Step) → IsApart s.sizes step → IsQuiet s.sizes step → C true (awaits (advance_at s t x)) (words_after words step)
   loud t step apart h = counted_on s.sizes words slots_there limit over after rises (words_after words step) (awaits (advance_at s t x)) (quiet s.sizes words slots_there limit over after rises step apart h)
-
-  begins_getting : (c : Change) (old : ℕ) → awaits (begin_getting s c old) ≡ false
-  begins_getting c old = refl
 
   joined_none : (j : JoinStage) → is_claiming j ≡ false → s.stage ≡ Joining → awaits (after_joining (record s { join = record s.join { stage = j } }) j) ≡ false
   joined_none Claiming none is = absurd cc

@@ -8,10 +8,6 @@ either s at k b = if b then begin_joining s at else at_stage s (StoringAnnouncem
 pub storing : (s d : CoreState) (at k : ℕ) → d ≡ announcing_scan s at k → k < announcement_size (length s.asked) → d ≡ at_stage s (StoringAnnouncement at k)
 storing s d at k is less = is ∙ ap (either s at k) (ne_eqb k (announcement_size (length s.asked)) (λ e. omega (arith, e, less)))
 
--- all are stored
-pub joining : (s d : CoreState) (at k : ℕ) → d ≡ announcing_scan s at k → k ≡ announcement_size (length s.asked) → d ≡ begin_joining s at
-joining s d at k is all = is ∙ ap (either s at k) (eq-eqb k (announcement_size (length s.asked)) all)
-
 module _ (s d : CoreState) (at k : ℕ) (storing : d ≡ at_stage s (StoringAnnouncement at k)) where
   pub store_due : (word : ℕ) → word ≡ slice_index (announcement_block s.asked) k → step_of d ≡ Some (Store (at + k) word)
   store_due word e = ap step_of storing ∙ ap (λ v. Some (Store (at + k) v)) (sym e)

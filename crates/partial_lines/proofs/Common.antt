@@ -1,10 +1,10 @@
 -- The names that several proofs of this crate take from elsewhere.
-pub use Rattle.std.proofs.Common.{ℕ, ◌≡◌, ◌+◌, ◌<◌, ◌==◌, Bool, true, false, if◌then◌else◌, length, Some, refl, sym, ap, ◌∙◌, arith, Option, None, subst, ◌≤◌, List, [], ◌∷◌, map, rules, IfSome, IfNone, Result, Ok, Err, IfOk, IfErr, OnOk}
+pub use Rattle.std.proofs.Common.{ℕ, ◌≡◌, ◌+◌, ◌<◌, ◌==◌, Bool, true, false, if◌then◌else◌, length, Some, refl, sym, ap, ◌∙◌, arith, Option, None, subst, ◌≤◌, List, [], ◌∷◌, rules, IfSome, IfNone, Result, Ok, Err, IfOk, IfErr, OnOk}
 pub use Rattle.std.specs.{Option.{option_map_or, is_some}, Prelude.{slice_index, IsSome, nat_eq}}
 pub use Rattle.std.proofs.lemmas.Bool.{ne_eqb, eq-eqb, eqb-true, eqb-false, le-ltb, false≢true, lt-ltb}
 pub use Rattle.partial_words.specs.declared.block.Block.{Block}
 pub use Rattle.partial_words.specs.declared.step.{Step.Step, Step.TheVariants.{Load, Store, Add}}
-pub use Rattle.partial_words.specs.{Announcement.{announcement_block, announcement_size}, Layout.{pool_end, Layout, pool_counter}}
+pub use Rattle.partial_words.specs.{Announcement.{announcement_block, announcement_size}, Layout.{pool_end, Layout}}
 pub use Rattle.partial_embedded.specs.Embedded.{EmbeddedState, ViewGoesTogether, ViewPair}
 pub use Rattle.partial_machine.specs.declared.stage.{Change.Change, Stage.Stage}
 pub use Rattle.partial_machine.specs.declared.stage.Stage.TheVariants.{ScanBegun, StoringAnnouncement, GettingSet, Viewing, ClaimingRecord, Scanning, Leaving, Idle, StoringRecord, Exchanging}

@@ -2,7 +2,6 @@
 use Rattle.partial_lines.proofs.Common.{ℕ, ◌≡◌, ◌==◌, if◌then◌else◌, length, Option, Some, None, true, refl, sym, ap, subst, ◌∙◌, IsSome, false≢true, Stage, GettingSet, Viewing, ClaimingRecord, Scanning, Leaving, scan_begun, scan_step, set_begun, set_step, CoreState, advance, at_stage, getting, scanning, step_at, step_of, with_getting, with_scanning, IsSound, is_sound_at, GetsOn, IsScanStage, IsViewing, behind_scan, positions_at, set_kept, set_made, option_map_or, is_some, Change}
 use Rattle.partial_words.specs.declared.step.Step.{Step}
 use Rattle.partial_active.specs.GetSet as finding
-use Rattle.partial_active.specs.GetSetAnswers as finding_answers
 use Rattle.partial_embedded.specs.Embedded as viewing
 use Rattle.partial_embedded.specs.declared.embedded.Stage as viewed
 use Rattle.partial_embedded.specs.declared.embedded.Stage.TheVariants.{Done}
@@ -36,16 +35,6 @@ module _ (s t : CoreState) (c : Change) (old : ℕ) (step : Step) (from : s ≡ 
   pub set_now : s ≡ at_stage t (GettingSet c old)
   set_now = from ∙ set_under_way t c old step (ap (λ (p : finding.SetPair). finding.set_step_due p.0) (sym (ap getting from ∙ set_kept t c old)) ∙ due)
 
-  -- it is the machine's
-  pub set_due : step_of s ≡ Some step
-  set_due = ap step_of set_now ∙ ap (λ (p : finding.SetPair). finding.set_step_due p.0) (sym (ap getting set_now)) ∙ due
-
-  -- and so is what may answer it
-  pub set_possible : (a : ℕ) → IsPossible s a → finding_answers.IsPossibleInSet (getting s) a
-  set_possible a possible =
-      let may : finding_answers.IsPossibleInSet (getting t) a = subst (λ (u : CoreState). IsPossible u a) set_now possible in
-      subst (λ (p : finding.SetPair). finding_answers.IsPossibleInSet p a) (sym (ap getting set_now)) may
-
   -- its answer changes the getSet and what it has found alone, until it is over
   module _ (d : CoreState) (a : ℕ) (thereafter : d ≡ advance s a) where
     abbrev next : CoreState
@@ -53,9 +42,6 @@ module _ (s t : CoreState) (c : Change) (old : ℕ) (step : Step) (from : s ≡ 
 
     led : d ≡ set_made next c old
     led = thereafter ∙ ap (λ (u : CoreState). advance u a) set_now
-
-    pub set_taken : getting d ≡ finding.advance_set (getting s) a
-    set_taken = ap getting led ∙ set_kept next c old ∙ ap (λ (p : finding.SetPair). finding.advance_set p a) (sym (ap getting set_now))
 
     pub set_goes : d ≡ set_made d c old
     set_goes = led ∙ sym (ap (λ (u : CoreState). set_made u c old) led ∙ set_twice next c old)

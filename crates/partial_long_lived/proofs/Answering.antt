@@ -1,5 +1,5 @@
 -- A call of a port: how it begins at the seat that was taken out, and what it leaves once the seat is put back.
-use Rattle.partial_long_lived.proofs.{Common.{ℕ, zero, suc, None, append-nil, ◌≡◌, ◌<◌, ◌≤◌, ◌++◌, ◌∷◌, [], Option, Some, IfSome, Bool, true, false, true≢false, List, length, ap, ◌+◌, take, refl, sym, subst, ◌∙◌, inl, inr, arith, nat_lt, slice_index, AllByRecursion, list_all, option_map, take-append_seam, TableId, Applied, IsEntryFor, IsLegal, LegalNotes, Noted, seen_by, AllByRecursion-get, LegalNotes-last, Layout, CoreState, fresh, AreComponentIndices, IsSound, is_sound_at, IsMarkedLike, core_of, is_at_rest, public_stamp, Refused, Component, Overtaken, EpochsSpent, About, Stand, Began, SeatedPort, IsOf, MemoryView, PortView, port_view, seen_in, SeatGoes, IsHeld, epoch_at, port_at, HasCome, HasNotedRead, IsIdle, EpochChanged, NotChanged, HasNotedScan, RestsUnmarked, ScanMade, noted_scan, NotScanned, RestsAt, MadeNamed, ScannedNamed, ScannedStamped, Contains, is_some, Call, Answer, Note, IsCause, no_spare, IsInPool, first_free, IsEpochPlan, plan_of}, Coming.goes_on}
+use Rattle.partial_long_lived.proofs.{Common.{ℕ, None, append-nil, ◌≡◌, ◌<◌, ◌≤◌, ◌++◌, ◌∷◌, [], Option, Some, IfSome, Bool, true, false, true≢false, List, length, ap, ◌+◌, take, refl, sym, subst, ◌∙◌, inl, inr, arith, nat_lt, AllByRecursion, list_all, option_map, take-append_seam, TableId, Applied, IsEntryFor, IsLegal, LegalNotes, Noted, seen_by, AllByRecursion-get, LegalNotes-last, Layout, CoreState, fresh, IsSound, is_sound_at, IsMarkedLike, is_at_rest, public_stamp, Refused, Component, Overtaken, EpochsSpent, About, Stand, Began, SeatedPort, IsOf, MemoryView, PortView, port_view, seen_in, SeatGoes, IsHeld, epoch_at, port_at, HasCome, HasNotedRead, EpochChanged, HasNotedScan, RestsUnmarked, ScanMade, noted_scan, NotScanned, RestsAt, MadeNamed, ScannedNamed, ScannedStamped, Contains, is_some, Call, Answer, Note, IsCause, no_spare, IsInPool, first_free, IsEpochPlan, plan_of}, Coming.goes_on}
 use Rattle.partial_model.proofs.Decisions.{Decides-list_all, Decides-nat_lt}
 use Rattle.partial_active.specs.GetSet.{fresh_set as unmarked}
 use Rattle.partial_long_lived.specs.Calls as calls
@@ -150,49 +150,8 @@ rests_unmarked table about s core spent h w spare =
     let b = w.between spare in
     (record { between = b.0; sizes = w.sizes; port = w.port ∙ h.number; pool = b.2; slots = b.3; kept = λ free. b.4 }, b.1)
 
--- and rests after the scan, spent if it has claimed past the limit
-pub unmarked_rests : (table : TableId) (about : About) (t : Stand) (core : CoreState) (spent : Bool) →
-    IsHeld table about t → IsIdle t → RestsUnmarked (port_at t) core → (port_at t).port.over ≡ spent →
-    RestsAt t core spent
-unmarked_rests table about t core spent h idle w over = record {
-  free = idle;
-  idle = w.between.idle;
-  sound = w.between.sound;
-  sizes = w.sizes;
-  port = w.port ∙ sym h.number;
-  between = λ no. (w.between, over ∙ no, w.pool, w.slots, w.kept (over ∙ no));
-}
-
 -- the first steps of a call have changed the epoch
 module _ (table : TableId) (about : About) (s u : Stand) (core : CoreState) (spent : Bool) (h : IsHeld table about s) (w : RestsAt s core spent) (changed : EpochChanged true s u) where
-  changed_idle : IsIdle u
-  changed_idle = record { stands = ap (λ (x : SeatedPort). x.port.control.entering) changed.is; free = ap (λ (x : SeatedPort). x.port.control.owned) changed.is }
-
-  pub changed_over : (port_at u).port.over ≡ false
-  changed_over = ap (λ (x : SeatedPort). x.port.over) changed.is
-
-  pub changed_fresh : (port_at u).began.epoch ≤ u.epoch
-  changed_fresh = let same = ap (λ (x : SeatedPort). x.began.epoch) changed.is in let fresh = changed.fresh in omega (arith, same, fresh)
-
-  pub changed_free : IsIdle u
-  changed_free = changed_idle
-
-  changed_come : HasCome s u
-  changed_come = record {
-    shape = changed.shape;
-    number = changed.number;
-    goes = changed.goes;
-    idle = changed_idle;
-    machine = inr (let up = changed.later in let epoch = h.epoch in omega (arith, up, epoch), ap (λ (x : SeatedPort). core_of x.port.part) changed.is, changed_over);
-  }
-
-  pub changed_unmarked : (held : IsHeld table about u) (c : CoreState) → c ≡ record core { pool_spent = false; slots_spent = false; spare = no_spare core.sizes; get_set = unmarked core.sizes false } → RestsUnmarked (port_at u) c
-  changed_unmarked held c is =
-      let up = changed.later in
-      let epoch = h.epoch in
-      let own : s.number ≡ (port_at s).number = h.number in
-      (rests_unmarked table about u c false held (rests_anew s u core spent own h.known.plan changed_come w (λ same. omega (arith, up, epoch, same)) c is) refl).0
-
   changed_scanned : (t : Stand) (which values : List ℕ) (collects : ℕ) (borrowed : Option ℕ) → ScanMade u t which values collects borrowed → HasNotedScan s t which values collects borrowed
   changed_scanned t which values collects borrowed made = record {
     shape = made.shape ∙ changed.shape;
@@ -217,32 +176,12 @@ module _ (table : TableId) (about : About) (s u : Stand) (core : CoreState) (spe
   unfolding changed_scanned
   changed_named t which values collects borrowed ws named = record { scanned = changed_scanned t which values collects borrowed named.made; stamps = named.stamps }
 
--- a port whose epoch couldn't be changed rests spent
-pub unchanged_rests : (s t : Stand) (core : CoreState) (spent : Bool) → RestsAt s core spent → NotChanged true s t → RestsAt t core true
-unchanged_rests s t core spent w n = record {
-  free = n.free;
-  idle = w.idle;
-  sound = w.sound;
-  sizes = w.sizes ∙ ap (λ (a : About). a.sizes) (sym n.goes.about);
-  port = w.port ∙ sym n.number;
-  between = λ no. absurd (true≢false no);
-}
-
 -- whether each index is below the number of components
 pub are_below : (m : ℕ) (js : List ℕ) (b : Bool) → b ≡ list_all (λ i. nat_lt i m) js → b ≡ true → AllByRecursion (λ j. j < m) js
 are_below m js b is all = (Decides-list_all (λ i. nat_lt i m) (λ j. j < m) (λ i. Decides-nat_lt i m) js).0 (sym is ∙ all)
 
 pub not_below : (m : ℕ) (js : List ℕ) (b : Bool) → b ≡ list_all (λ i. nat_lt i m) js → b ≡ false → AllByRecursion (λ j. j < m) js → ⊥
 not_below m js b is some all = true≢false (sym ((Decides-list_all (λ i. nat_lt i m) (λ j. j < m) (λ i. Decides-nat_lt i m) js).1 all) ∙ sym is ∙ some)
-
--- such indices are those of components
-below_at : (m : ℕ) (js : List ℕ) → AllByRecursion (λ j. j < m) js → (k : ℕ) → k < length js → slice_index js k < m
-below_at m [] all k low = absurd (omega (arith, low))
-below_at m (j ∷ js) all zero low = all.0
-below_at m (j ∷ js) all (suc k) low = below_at m js all.1 k (omega (arith, low))
-
-pub are_components : (z : Layout) (m : ℕ) (js : List ℕ) → m ≡ z.m → AllByRecursion (λ j. j < m) js → length js ≤ z.m → AreComponentIndices z js
-are_components z m js is all few = record { few = few; each = λ k low. let below = below_at m js all k low in omega (arith, below, is) }
 
 -- the public stamp of a view that a scan has borrowed fits a word
 module _ (s t : Stand) (which values : List ℕ) (collects : ℕ) (borrowed : Option ℕ) (w : HasNotedScan s t which values collects borrowed) where

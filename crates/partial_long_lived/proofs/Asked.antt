@@ -30,9 +30,6 @@ module _ (table : TableId) (about : About) (s : Stand) (h : IsHeld table about s
   pub ports_are : s.shape.ports ≡ about.ports
   ports_are = sym (ap (λ (e : Plan). e.ports) h.shape)
 
-  pub sizes_are : s.shape.sizes ≡ about.sizes
-  sizes_are = sym (ap (λ (e : Plan). e.sizes) h.shape)
-
   pub arenas_are : s.shape.arenas ≡ about.arenas
   arenas_are = sym (ap (λ (e : Plan). e.arenas) h.shape)
 

@@ -1,20 +1,7 @@
 -- An attempt of an update in the epoch where a port stands.
-use Rattle.partial_long_lived.proofs.{Common.{Opening, ℕ, ◌≡◌, ◌≢◌, ◌+◌, ◌<◌, ◌≤◌, ◌==◌, ◌++◌, Bool, true, false, if◌then◌else◌, Option, None, Some, Ok, List, [], ◌∷◌, length, map, refl, sym, ap, subst, ◌∙◌, inl, inr, arith, option_map_or, nat_lt, is_some, lt-ltb, eqb_tells, length-map, TableId, Applied, Call, Answer, Note, stamp_of, Noted, place_of, Load, Exchange, IsLayout, Layout, pool_end, Change, Reply, Stage, Exchanging, Finished, UpdateBegun, CoreState, advance_at, answers_lead_on, at_stage, begin_getting, seat_left_at, most_of_update, seat_steps_left, lists_spent, overtaken_reply, reply_of, step_at, step_of, answer_for, call_of, update_call, IsRecord, IsSound, is_sound_at, Part, AreNotesOf, IsNoteOf, IsPlacedAt, Exchanged, RestsLike, update_reply, Plan, seal, unsealed, history_of, public_entry, public_log, stamp_limit, public_noted, Control, About, Shape, Stand, Began, SeatedPort, plan_of, seen_in, SeatGoes, BeganBy, IsHeld, port_at, IsIdle, StaysAt, opening_of, SeatMakes, MissesSeal, unsealed_answer, RestsUnmarked, CallMade, record_claim, IsGoing, ComesTo, MayBegin, machine_at, UpdateAttempted, ExchangeDue, ExpectsOne, IsEntryOf, IsOwnMachine, NotesNothing, PortStayed, noted_where, word_from, ◌||◌, IfSome, take, length-append, IsPossibleAt, SeatBegins, FoundSealed, Block, claimed_end, ◌^◌}, Coming.goes_on, Under.{first_made, next_made, notes_same}, Zeros.seat_fewer}
+use Rattle.partial_long_lived.proofs.{Common.{Opening, ℕ, ◌≡◌, ◌≢◌, ◌+◌, ◌<◌, ◌≤◌, ◌==◌, ◌++◌, Bool, true, false, if◌then◌else◌, Option, None, Some, Ok, List, [], ◌∷◌, length, map, refl, sym, ap, subst, ◌∙◌, inl, inr, arith, option_map_or, nat_lt, is_some, lt-ltb, eqb_tells, length-map, TableId, Applied, Call, Answer, Note, stamp_of, Noted, place_of, Load, Exchange, IsLayout, Layout, pool_end, Change, Reply, Stage, Exchanging, Finished, UpdateBegun, CoreState, advance_at, answers_lead_on, at_stage, begin_getting, seat_left_at, most_of_update, seat_steps_left, lists_spent, overtaken_reply, reply_of, step_at, step_of, answer_for, call_of, update_call, IsRecord, IsSound, is_sound_at, Part, AreNotesOf, IsNoteOf, IsPlacedAt, Exchanged, RestsLike, update_reply, Plan, seal, unsealed, history_of, public_entry, public_log, stamp_limit, public_noted, Control, About, Shape, Stand, Began, SeatedPort, plan_of, seen_in, SeatGoes, BeganBy, IsHeld, port_at, IsIdle, StaysAt, opening_of, SeatMakes, MissesSeal, unsealed_answer, RestsUnmarked, CallMade, record_claim, IsGoing, ComesTo, MayBegin, machine_at, UpdateAttempted, ExchangeDue, ExpectsOne, IsEntryOf, IsOwnMachine, NotesNothing, PortStayed, noted_where, word_from, ◌||◌, IfSome, take, length-append, IsPossibleAt, SeatBegins, FoundSealed, Block, claimed_end}, Coming.goes_on, Under.{first_made, next_made, notes_same}, Zeros.seat_fewer}
 use Rattle.std.proofs.Math.Bool.{or-false}
 use Rattle.partial_lines.specs.declared.exchange.Exchanged.TheVariants.{Applied as IsApplied, Overtaken}
-
--- the word after those that a port has claimed for its records fits a word
-pub claimed_fits : (table : TableId) (about : About) (s : Stand) (core : CoreState) → IsGoing table about s → RestsLike (machine_at s) core → claimed_end core < 2 ^ 64
-claimed_fits table about s core going rests =
-    let begins = going.under.2 in
-    let had = going.under.3 in
-    let layout : IsLayout core.sizes = subst IsLayout (begins.sizes ∙ sym (rests.like.sizes ∙ had.made.sizes)) begins.layout in
-    let m = layout.components.1 in
-    let slots = layout.slots.1 in
-    let lists = layout.lists in
-    let pool = layout.pool.1 in
-    let within = rests.sound.spare.1 in
-    omega (arith, m, slots, lists, pool, within)
 
 -- a machine without marks may begin an update of a component
 pub update_begins : (table : TableId) (about : About) (s : Stand) (core : CoreState) (d : Change) → IsHeld table about s → IsIdle s → RestsUnmarked (port_at s) core → (port_at s).port.over ≡ false →

@@ -99,9 +99,6 @@ module _ (table : TableId) (about : About) (s u v t : Stand) (h : IsHeld table a
     (fresh_now : (port_at v).began.epoch ≤ (port_at u).port.control.here.epoch) (noted : (first && not (nat_lt a seal)) ≡ false) (notes : (port_at u).notes ≡ (port_at s).notes)
     (began : length (seen_in (port_at s).port) ≤ (port_at v).began.length) (kept' : StaysAt v t) (same : port_at t ≡ port_at v) (value stamp : ℕ) (is_value : HasValue v j value)
     (is_stamp : stamp ≡ public_of (plan_of about) (port_at v).port.before j (unsealed a)) where
-  log_is : (port_at v).port.part.seen ≡ w.log
-  log_is = ap (λ (x : SeatedPort). x.port.part.seen) w.is
-
   before_is : (port_at v).port.before ≡ (port_at u).port.before
   before_is = ap (λ (x : SeatedPort). x.port.before) w.is
 

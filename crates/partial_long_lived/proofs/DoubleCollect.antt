@@ -20,9 +20,6 @@ module _ (table : TableId) (about : About) (s u t : Stand) (h : IsHeld table abo
   pub first_stayed : HasStayed s u
   first_stayed = record { come = come_first; epoch = kept.epoch }
 
-  pub first_notes : (port_at u).notes ≡ (port_at s).notes
-  first_notes = notes_are
-
   module _ (same : port_at t ≡ port_at u) (fresh : (port_at u).began.epoch ≤ (port_at s).port.control.here.epoch) where
     come_then : HasCome s t
     come_then = come_same s u t come_first kept' same
@@ -94,9 +91,6 @@ module _ (table : TableId) (about : About) (s u t : Stand) (h : IsHeld table abo
           epoch = kept'.epoch;
         })
 
-    pub look_notes : (port_at t).notes ≡ (port_at s).notes
-    look_notes = ap (λ (x : SeatedPort). x.notes) looked.looks.2 ∙ notes_are
-
 -- what the first steps have settled stays so
 pub settled_on : (s t u : Stand) → SettledFirst s t → HasGlanced t u → SettledFirst s u
 settled_on s t u b g = record {
@@ -111,15 +105,6 @@ seen_long : (x : SeatedPort) → length (seen_in x.port) ≡ length (history_of 
 seen_long x =
     length-append (history_of x.port.before) (public_log (length x.port.before) x.port.part.seen)
     ∙ ap (λ n. length (history_of x.port.before) + n) (length-map x.port.part.seen (public_entry (length x.port.before)))
-
-pub collect_time : (t u : Stand) → (port_at t).began.length ≤ length (seen_in (port_at t).port) → HasGlanced t u → (port_at u).began.length ≤ length (seen_in (port_at u).port)
-collect_time t u time g =
-    let began = ap (λ (x : SeatedPort). x.began.length) g.is in
-    let before = ap (λ (x : SeatedPort). length (history_of x.port.before)) g.is in
-    let more = glanced_seen t u g in
-    let was = seen_long (port_at t) in
-    let now = seen_long (port_at u) in
-    omega (arith, time, began, before, more, was, now)
 
 -- The two collects of a scan, at the stands s and u, have found the same words; the port has noted the scan by its last load, which led to t.
 module _ (table : TableId) (about : About) (s u v : Stand) (h : IsHeld table about s) (idle : IsIdle s) (js ws : List ℕ) (inside : AreInside about.sizes js) (some : 0 < length js)

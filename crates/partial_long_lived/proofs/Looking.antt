@@ -1,5 +1,5 @@
 -- What a look leaves of a port.
-use Rattle.partial_long_lived.proofs.{Common.{ℕ, ◌≡◌, ◌==◌, Bool, true, false, if◌then◌else◌, Option, Some, None, refl, sym, ap, ◌∙◌, option_map_or, packed, OwnedArena, Port, having_passed, having_looked, Stand, SeatedPort, port_at, having_found, looked_at, IsIdle, StaysAt, LookFound, HasTaken, HoldsMark, IsPast, MayPutPort, Owns, Remains, HasSetWords, Began, Contention, becomes, Searches, SearchesOn, SearchBegun, PassBegun, BeginsSearch, BeginsPass, HasPassedArenas, search_at, most_freed, SeatGoes, arith, ◌+◌, subst}, Working.searches_still}
+use Rattle.partial_long_lived.proofs.{Common.{ℕ, ◌≡◌, ◌==◌, Bool, true, false, if◌then◌else◌, Option, Some, None, refl, sym, ap, ◌∙◌, option_map_or, packed, OwnedArena, Port, having_passed, having_looked, Stand, SeatedPort, port_at, having_found, looked_at, StaysAt, LookFound, HasTaken, HoldsMark, IsPast, MayPutPort, Owns, Remains, HasSetWords, Began, Contention, becomes, Searches, SearchesOn, PassBegun, BeginsPass, HasPassedArenas, arith, subst}, Working.searches_still}
 use Rattle.std.proofs.lemmas.Bool.{eqb-true as eqb_true}
 
 -- what a look leaves as it was, whatever it finds
@@ -39,19 +39,6 @@ module _ (first : Bool) (s t : Stand) (b : Bool) (w : LookFound first s b t) whe
     arena = own.arena;
   }
 
--- a port that owns no arena owns none after a look
-pub look_idle : (first : Bool) (s t : Stand) (b : Bool) → IsIdle s → LookFound first s b t → IsIdle t
-look_idle first s t b idle w = record {
-  stands = looked_keeps first s t b w (λ (p : Port). p.control.entering) (λ o. refl) refl ∙ idle.stands;
-  free = ap (λ (p : Port). p.control.owned) (port_is first s t b w)
-      ∙ ap (λ (o : Option OwnedArena). (if w.found == packed (port_at s).port.control.here then option_map_or (having_looked (port_at s).port) o (port_at s).port else having_passed (port_at s).port).control.owned) idle.free
-      ∙ by (w.found == packed (port_at s).port.control.here) ∙ idle.free;
-}
-  where
-    by : (c : Bool) → (if c then (port_at s).port else having_passed (port_at s).port).control.owned ≡ (port_at s).port.control.owned
-    by true = refl
-    by false = refl
-
 -- whether the port has seen its epoch's end, after a look that finds its own site the current one, or another
 pub past_kept : (n : ℕ) (p : Port) → (n == packed p.control.here) ≡ true → (looked_at n p).control.past ≡ p.control.past
 past_kept n p here = ap (λ (c : Bool). (if c then having_found p else having_passed p).control.past) here ∙ by p.control.owned
@@ -74,56 +61,7 @@ module _ (s t : Stand) (a : ℕ) (m : Contention) (is : port_at t ≡ record (be
   pub search_keeps : {A : Type 0} (f : Port → A) → ((o : OwnedArena) → f (having_looked (port_at s).port o) ≡ f (port_at s).port) → f (having_passed (port_at s).port) ≡ f (port_at s).port → f (port_at t).port ≡ f (port_at s).port
   search_keeps f here away = ap (λ (z : SeatedPort). f z.port) is ∙ looked_same f a (port_at s).port here away
 
-  pub search_idle : IsIdle s → IsIdle t
-  search_idle idle = record {
-    stands = search_keeps (λ (p : Port). p.control.entering) (λ o. refl) refl ∙ idle.stands;
-    free = ap (λ (z : SeatedPort). z.port.control.owned) is
-        ∙ ap (λ (o : Option OwnedArena). (if a == packed (port_at s).port.control.here then option_map_or (having_looked (port_at s).port) o (port_at s).port else having_passed (port_at s).port).control.owned) idle.free
-        ∙ by (a == packed (port_at s).port.control.here) ∙ idle.free;
-  }
-    where
-      by : (c : Bool) → (if c then (port_at s).port else having_passed (port_at s).port).control.owned ≡ (port_at s).port.control.owned
-      by true = refl
-      by false = refl
-
-  pub search_remains : t.shape ≡ s.shape → t.number ≡ s.number → t.epoch ≡ s.epoch → t.arena ≡ s.arena → t.base ≡ s.base → SeatGoes (port_at s) (port_at t) → Remains s t
-  search_remains shape number epoch arena base goes = record {
-    stays = record {
-      shape = shape;
-      number = number;
-      epoch = epoch;
-      arena = arena;
-      base = base;
-      goes = goes;
-      here = search_keeps (λ (p : Port). p.control.here) (λ o. refl) refl;
-      entering = search_keeps (λ (p : Port). p.control.entering) (λ o. refl) refl;
-      notes = ap (λ (z : SeatedPort). z.notes) is;
-      began = ap (λ (z : SeatedPort). z.began) is;
-    };
-    same = record {
-      part = search_keeps (λ (p : Port). p.part) (λ o. refl) refl;
-      before = search_keeps (λ (p : Port). p.before) (λ o. refl) refl;
-      over = search_keeps (λ (p : Port). p.over) (λ o. refl) refl;
-    };
-    passed = search_keeps (λ (p : Port). p.passed) (λ o. refl) refl;
-  }
-
--- a search has begun, or the port's epoch has ended
-pub search_begun : (s t : Stand) (a : ℕ) → BeginsSearch (port_at s) a (port_at t) → (b : Bool) → b ≡ (a == packed (port_at s).port.control.here) → SearchBegun b t
-search_begun s t a w true is =
-    let at : a ≡ packed (port_at s).port.control.here = eqb_true a (packed (port_at s).port.control.here) (sym is) in (
-      record {
-        epoch = ap (λ (z : SeatedPort). z.contention.search.epoch) w.is ∙ sym (search_keeps s t a _ w.is (λ (p : Port). p.control.here.epoch) (λ o. refl) refl);
-        past = ap (λ (z : SeatedPort). z.port.control.past) w.is ∙ past_kept a (port_at s).port (sym is) ∙ w.current at;
-        met_is = ap (λ (z : SeatedPort). z.contention.search.met) w.is;
-        passed = λ i low. absurd (omega (arith, low));
-      },
-      ap (λ (z : SeatedPort). z.contention.search.most) w.is ∙ ap (λ n. n + most_freed (port_at s).about.ports) (sym (ap (λ (z : SeatedPort). z.contention.search.freed) w.is))
-          ∙ ap (λ (z : SeatedPort). (search_at t).freed + most_freed z.about.ports) (sym w.is),
-    )
-search_begun s t a w false is = ap (λ (z : SeatedPort). z.port.control.past) w.is ∙ past_seen a (port_at s).port (sym is)
-
--- so has another pass
+-- whether a pass begins by a look that finds the port's own site the current one, or another
 pub pass_begun : (s t : Stand) (a n : ℕ) → BeginsPass (port_at s) a (port_at t) → Searches false n s → n ≡ (port_at s).about.arenas → (b : Bool) → b ≡ (a == packed (port_at s).port.control.here) → PassBegun b s t
 pass_begun s t a n w searches all true is =
     let at : a ≡ packed (port_at s).port.control.here = eqb_true a (packed (port_at s).port.control.here) (sym is) in

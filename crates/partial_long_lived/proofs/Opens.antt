@@ -66,7 +66,3 @@ newcomer_known a words w k low = record {
   fits = record { each = tt };
   own = record { above = tt; below = tt };
 }
-
--- and of all
-pub newcomers_known : (a : About) (words : List ℕ) → OpensAll (plan_of a) words → AllByRecursion IsSeatKnown (newcomers a 0 a.ports)
-newcomers_known a words w = newcomers_all IsSeatKnown a 0 a.ports (λ i low. newcomer_known a words w i (omega (arith, low)))

@@ -1,5 +1,5 @@
 -- The seat of a port in a call, from step to step.
-use Rattle.partial_long_lived.proofs.{Common.{ℕ, ◌≡◌, ◌+◌, ◌-◌, ◌*◌, ◌<◌, ◌≤◌, ◌==◌, ◌⊎◌, Bool, true, false, if◌then◌else◌, Option, Some, None, IfSome, List, refl, sym, ap, subst, ◌∙◌, arith, option_map_or, TableId, Me, Allows, Site, base, packed, span, whole, IsEpochPlan, below_whole, SeatSees, Wish, component_at, sees, HaveSlots, OwnedArena, Port, Stands, having_passed, having_looked, About, Shape, Stand, IsRuleKept, SeatedPort, one_of, plan_of, SeatGoes, IsOne, tells, IsHeld, port_at, SeatLooks, looked_at, IsShapeOf}, Loads.IsFinding, Sights.may_see}
+use Rattle.partial_long_lived.proofs.{Common.{ℕ, ◌≡◌, ◌+◌, ◌-◌, ◌*◌, ◌<◌, ◌≤◌, ◌⊎◌, Bool, None, IfSome, List, sym, ap, subst, ◌∙◌, arith, TableId, Me, Allows, Site, base, packed, span, whole, IsEpochPlan, below_whole, SeatSees, Wish, component_at, sees, HaveSlots, Stands, About, Shape, Stand, IsRuleKept, SeatedPort, one_of, plan_of, SeatGoes, IsOne, tells, IsHeld, port_at, IsShapeOf}, Loads.IsFinding, Sights.may_see}
 use Rattle.std.proofs.Math.Nat.{mul-le-mul_right}
 use Rattle.partial_long_lived.specs.Inner.Calls as Calls
 use Rattle.partial_long_lived.proofs.Control as Control
@@ -50,30 +50,6 @@ site_small table about s h =
     let most = h.known.plan.arenas in
     (omega (arith, epoch, low), omega (arith, arena, few, most))
 
--- a look leaves a port where it stands
-looked_here : (n : ℕ) (p : Port) → (looked_at n p).control.here ≡ p.control.here
-looked_here n p = by (n == packed p.control.here) p.control.owned
-  where
-    by : (c : Bool) (o : Option OwnedArena) → (if c then option_map_or (having_looked p) o p else having_passed p).control.here ≡ p.control.here
-    by true None = refl
-    by true (Some o) = refl
-    by false o = refl
-
-pub looks_here : (first : Bool) (x : SeatedPort) (n : ℕ) (y : SeatedPort) → SeatLooks first x n y → y.port.control.here ≡ x.port.control.here
-looks_here first x n y w = ap (λ (z : SeatedPort). z.port.control.here) w.2 ∙ looked_here n x.port
-
--- nor has it passed more components
-looked_passed : (n : ℕ) (p : Port) → (looked_at n p).passed ≡ p.passed
-looked_passed n p = by (n == packed p.control.here) p.control.owned
-  where
-    by : (c : Bool) (o : Option OwnedArena) → (if c then option_map_or (having_looked p) o p else having_passed p).passed ≡ p.passed
-    by true None = refl
-    by true (Some o) = refl
-    by false o = refl
-
-pub looks_passed : (first : Bool) (x : SeatedPort) (n : ℕ) (y : SeatedPort) → SeatLooks first x n y → y.port.passed ≡ x.port.passed
-looks_passed first x n y w = ap (λ (z : SeatedPort). z.port.passed) w.2 ∙ looked_passed n x.port
-
 -- a port of the memory may look
 pub own_look : (about : About) (s : Stand) → (port_at s).about ≡ about → Calls.MayLook s → Control.MayLook about (port_at s).port
 own_look about s own may = (may.stands, subst (λ (a : About). IfSome (port_at s).port.control.owned (λ o. (o.mark ≡ None) ⊎ (o.clean < a.ports))) own may.marks)
@@ -113,10 +89,6 @@ module _ (table : TableId) (about : About) (s : Stand) (h : IsHeld table about s
       let is = base_is in
       let at : component_at (port_at s) (s.base + j) ≡ j = ap (λ (a : About). s.base + j - base (plan_of a) (port_at s).port.control.here.arena) h.own ∙ omega (arith, is) in
       subst (λ i. SeatSees first wish i (port_at s) a (one_of me.0)) at told.2
-
--- a load leaves a port where it stands
-pub sees_here : (first : Bool) (wish : Wish) (j : ℕ) (x : SeatedPort) (a : ℕ) (y : SeatedPort) → SeatSees first wish j x a y → y.port.control.here ≡ x.port.control.here
-sees_here first wish j x a y w = ap (λ (z : SeatedPort). z.port.control.here) w.is
 
 -- there is a slot for each port
 pub room_of : (table : TableId) (about : About) (s : Stand) → IsHeld table about s → HaveSlots (plan_of about)

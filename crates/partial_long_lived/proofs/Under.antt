@@ -359,10 +359,6 @@ module _ (b : CoreState) (x : SeatedPort) (begins : MayBegin b x) (c : CoreState
           omega (arith, early, len, before, at);
     }
 
-    -- the call began when it did
-    pub next_began : z.began ≡ y.began
-    next_began = ap (λ (t : SeatedPort). t.began) m.is ∙ m.began
-
     or_false : (b : Bool) → (b || false) ≡ b
     or_false true = refl
     or_false false = refl

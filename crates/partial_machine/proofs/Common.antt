@@ -5,7 +5,7 @@ pub use Rattle.std.proofs.lemmas.{Bool.{false≢true, ltb-true, eqb-true, ltb-fa
 pub use Rattle.partial_model.specs.declared.call.{Call.Call, Refused.Refused}
 pub use Rattle.partial_words.specs.declared.step.Step.{Step}
 pub use Rattle.partial_words.specs.declared.step.Step.TheVariants.{Store, Add, Load}
-pub use Rattle.partial_words.specs.{Announcement.{announcement_size, indices_word}, Layout.{IsLayout, Layout, most_ahead, no_spare, slot_word, greatest_record, list_counter, pool_counter, pool_end, slot_counter, list_end, total}, Record.{next_word, pairs_size, full_record_size, pair_words, pairs_word, plain_record_size, view_size}, Step.{answer_of, word_of}}
+pub use Rattle.partial_words.specs.{Announcement.{announcement_size, indices_word}, Layout.{IsLayout, Layout, most_ahead, slot_word, greatest_record, list_counter, pool_counter, pool_end, slot_counter, list_end, total}, Record.{next_word, pairs_size, full_record_size, pair_words, pairs_word, plain_record_size, view_size}, Step.{answer_of, word_of}}
 pub use Rattle.partial_active.specs.declared.join.JoinStage.{JoinStage}
 pub use Rattle.partial_active.specs.declared.join.JoinStage.TheVariants.{Claiming, Joined, Spent, Storing}
 pub use Rattle.partial_active.specs.{Found.begins_at, IndexSet.{AreIndices, with_index}, Join.{join_step, advance_join, join_after, fits_join, join_left, step_of_join}}

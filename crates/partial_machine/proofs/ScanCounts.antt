@@ -22,9 +22,6 @@ module _ (indices : List ℕ) (p : viewing.ViewPair) (made n x : ℕ) (w : viewi
   r : ℕ
   r = length indices
 
-  Counts : ℕ → viewing.ViewPair → Type 0
-  Counts more q = counted_at (length indices) q (made + 1) (n + more) q.0.stage
-
   load_counted : (k : ℕ) → k < length indices → counted_at (length indices) p made n (Collect k) → (a b c : Bool) → nat_lt (k + 1) (length indices) ≡ b → let q = viewing.noted_load p k x in let v =
       (if a then viewing.borrow p x else (if b then viewing.view_at_stage q (Collect (k + 1))
       else (if c then (record q.0 { collects = q.0.collects + 1; moved = false; stage = Collect 0 }, q.1) else viewing.view_at_stage q (Value 0)))) in

@@ -311,12 +311,9 @@ module _ (s : CoreState) (layout : IsLayout s.sizes) (w : IsSound s) where
   kept_at Leaving x e possible = kept_as (advance_at s Leaving x) Leaving (Finished (scanned_reply s)) e refl refl refl refl refl w.spare w.asked w.found same_indices w.rows tt (omega arith)
   kept_at (Finished r) x e possible = absurd possible
 
+-- over a possible answer a machine stays sound, and it has fewer steps left
 pub kept : (s : CoreState) (x : ℕ) → IsLayout s.sizes → IsSound s → IsPossible s x → Keeps s (advance s x)
 kept s x layout w possible = kept_at s layout w s.stage x refl possible
-
--- over a possible answer a machine stays sound, and it has fewer steps left
-pub sound_on : (s : CoreState) (x : ℕ) → IsLayout s.sizes → IsSound s → IsPossible s x → IsSound (advance s x) × (steps_left (advance s x) < steps_left s)
-sound_on s x layout w possible = let k = kept s x layout w possible in (k.sound, k.fewer)
 
 -- the same of all that holds of a machine, at a stage that is known
 pub machine_on : (s q : CoreState) (room x : ℕ) (t : Stage) → IsMachine s room → s.stage ≡ t → IsPossibleAt s t x → q ≡ advance_at s t x → IsMachine q room

@@ -331,13 +331,6 @@ scan_answered p q which into machine rows (Err cause) some asked same copied tol
     let w = told (Reply.Refused cause) refl in
     record { answered = tt; led = tt; refused = inr w.0; led_to_refusal = λ _. w.1 }
 
--- a scan of no position
-pub scans_none : (p : PortView) (which into : List ℕ) (q : PortView) → which ≡ [] → into ≡ [] → q ≡ p → Scans p which into (record { collects = 0; borrowed = None }) q
-scans_none p which into q none empty same = subst (λ (l : List ℕ). Scans p l into (record { collects = 0; borrowed = None }) q) (sym none) (empty, refl, refl, same)
-
-pub none_led : (p : PortView) (which into : List ℕ) (q : PortView) → which ≡ [] → ScansLed p which into (record { collects = 0; borrowed = None }) q
-none_led p which into q none = subst (λ (l : List ℕ). ScansLed p l into (record { collects = 0; borrowed = None }) q) (sym none) tt
-
 -- a call that is refused at once has no steps that led it there
 pub at_once : (p q : PortView) (c : Call) (cause : Refused) → refusal p c ≡ Some cause → IsLedWhereLate p q c cause
 at_once p q c cause is none = let bad : Some cause ≡ None = sym is ∙ none in absurd cc

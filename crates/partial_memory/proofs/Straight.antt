@@ -1,6 +1,5 @@
 -- Calls in straight lines: each step is allowed, and leads the call on.
 use Rattle.partial_memory.proofs.{Common.{ℕ, ◌≡◌, ◌<◌, Some, List, refl, sym, subst, ◌∙◌, inl, inr, Me, Allows, TableId, Step, total, word_of, CoreState, advance, step_of, IsMachineOf, core_of, About, SeatedPort, IsRuleKept, IsOne, Told, makes, one_of, Begins, CallMade, IsGoing, IsUnderWay, ComesTo, machine_of}, Calls.{runs_machine, runs_on, runs_within}, Steps.{step_asked, change_of, told_of}}
-use Rattle.partial_machine.specs.Possible.{IsPossible}
 
 -- a call in its middle at the port x, whose next step is answered
 module _ (x : SeatedPort) (under : IsUnderWay x) (s : Step) (due : step_of (core_of x.part) ≡ Some s) where
@@ -13,9 +12,6 @@ module _ (x : SeatedPort) (under : IsUnderWay x) (s : Step) (due : step_of (core
   module _ (a : ℕ) (y : SeatedPort) (told : Told (core_of x.part) x a y) where
     pub next_is : core_of y.part ≡ advance (core_of x.part) a
     next_is = sym told.tells.machine.is
-
-    pub next_possible : IsPossible (core_of x.part) a
-    next_possible = told.tells.possible
 
     pub next_leads : ComesTo x y
     next_leads b h begins m = subst (λ (d : CoreState). CallMade b h d y) (sym next_is) (runs_on b h (core_of x.part) x a y s begins (inr m) due told)

@@ -17,11 +17,6 @@ pub Decides-nor : {P Q : Type 0} (x y : Bool) → Decides x P → Decides (not y
 Decides-nor true y d k = (λ e. absurd (true≢false (sym e)), λ w. absurd (w.0 (d.0 refl)))
 Decides-nor false y d k = (λ e. (λ p. true≢false (sym (d.1 p)), k.0 e), λ w. k.1 w.1)
 
--- one test passes only where the other does
-pub Decides-implies : {P Q : Type 0} (x y : Bool) → Decides x P → Decides y Q → Decides (not x || y) (P → Q)
-Decides-implies true y d k = (λ e p. k.0 e, λ f. k.1 (f (d.0 refl)))
-Decides-implies false y d k = (λ e p. absurd (true≢false (sym (d.1 p))), λ f. refl)
-
 -- a test that fails always decides what never holds
 pub Decides-never : {P : Type 0} → (P → ⊥) → Decides false P
 Decides-never n = (λ e. absurd (true≢false (sym e)), λ p. absurd (n p))

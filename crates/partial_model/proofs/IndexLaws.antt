@@ -6,14 +6,6 @@ use Rattle.std.proofs.Math.ListN.{get_or-append}
 
 -- ---- the places of a component's entries
 
-pub no_places : (h : List Applied) (j : ℕ) → ArePlacesOf h 0 j []
-no_places h j = record {
-  within = λ a w. absurd (omega arith);
-  stands = λ a w. absurd (omega arith);
-  whole = λ k e w s is. absurd (omega arith);
-  rises = λ a b le w. absurd (omega arith);
-}
-
 pushed : (ls : List ℕ) (n a : ℕ) → a < length (ls ++ n ∷ []) → ((a < length ls) × (slice_index (ls ++ n ∷ []) a ≡ slice_index ls a)) ⊎ ((a ≡ length ls) × (slice_index (ls ++ n ∷ []) a ≡ n))
 pushed ls n a w =
     let more : length (ls ++ n ∷ []) ≡ length ls + 1 = length-append ls (n ∷ []) in
@@ -151,12 +143,6 @@ pub none_of : (o : Option ℕ) → is_some o ≡ false → o ≡ None
 none_of None is = refl
 none_of (Some k) is = absurd cc
 
-pub no_stamps : (h : List Applied) (place : ℕ → Option ℕ) → ((t : ℕ) → place t ≡ None) → AreStampsOf h 0 place
-no_stamps h place none = record {
-  found = λ k e w s. absurd (omega arith);
-  stands = λ t k found. absurd (let no : None ≡ Some k = sym (none t) ∙ found in cc);
-}
-
 -- a new stamp is one more
 pub stamps_more : (h : List Applied) (n : ℕ) (place more : ℕ → Option ℕ) (e : Applied) → AreStampsOf h n place → slice_get h n ≡ Some e → place e.stamp ≡ None →
     ((t : ℕ) → more t ≡ (if nat_eq e.stamp t then Some n else place t)) → AreStampsOf h (n + 1) more
@@ -270,11 +256,6 @@ list_at_within [] j d w = absurd (omega arith)
 list_at_within (x ∷ ls) zero d w = refl
 list_at_within (x ∷ ls) (suc j) d w = list_at_within ls j d (omega arith)
 
-pub list_at_past : (ls : List (Vec ℕ)) (j : ℕ) → length ls ≤ j → [] ≡ list_at ls j
-list_at_past [] j w = refl
-list_at_past (x ∷ ls) zero w = absurd (omega arith)
-list_at_past (x ∷ ls) (suc j) w = list_at_past ls j (omega arith)
-
 list_set_same : (ls : List (Vec ℕ)) (c : ℕ) (v : Vec ℕ) → c < length ls → list_at (slice_set ls c v) c ≡ v.items
 list_set_same [] c v w = absurd (omega arith)
 list_set_same (x ∷ ls) zero v w = refl
@@ -286,15 +267,6 @@ list_set_other (x ∷ ls) zero zero v apart = absurd (apart refl)
 list_set_other (x ∷ ls) zero (suc j) v apart = refl
 list_set_other (x ∷ ls) (suc c) zero v apart = refl
 list_set_other (x ∷ ls) (suc c) (suc j) v apart = list_set_other ls c j v (λ same. apart (ap (λ n. suc n) same))
-
-pub list_push_empty : (ls : List (Vec ℕ)) (v : Vec ℕ) (j : ℕ) → v.items ≡ [] → list_at ls j ≡ [] → list_at (ls ++ v ∷ []) j ≡ []
-list_push_empty [] v zero none w = none
-list_push_empty [] v (suc j) none w = refl
-list_push_empty (x ∷ ls) v zero none w = w
-list_push_empty (x ∷ ls) v (suc j) none w = list_push_empty ls v j none w
-
-pub lists_none : (h : List Applied) (ls : List (Vec ℕ)) → ((j : ℕ) → list_at ls j ≡ []) → AreListsOf h 0 ls
-lists_none h ls none j = subst (ArePlacesOf h 0 j) (sym (none j)) (no_places h j)
 
 pub lists_more : (h : List Applied) (n : ℕ) (ls : List (Vec ℕ)) (e : Applied) (v : Vec ℕ) → AreListsOf h n ls → slice_get h n ≡ Some e → e.component < length ls →
     v.items ≡ list_at ls e.component ++ n ∷ [] → AreListsOf h (n + 1) (slice_set ls e.component v)

@@ -1,5 +1,5 @@
 -- One call more of a stage, of the monitor, and a meeting.
-use Rattle.partial_pipeline.proofs.{Common.{ℕ, zero, suc, ◌≡◌, ◌+◌, ◌<◌, ◌≤◌, ◌++◌, List, [], ◌∷◌, length, map, take, slice_index_or, refl, sym, ◌∙◌, ap, subst, inl, inr, Option, Some, append-nil, append_assoc, length-take, arith, AllByRecursion, Applied, Opening, Call, Answer, Note, Noted, LegalNotes, seen_after, places_written, wrote, all_append, all_weaker, shown_within, Goes, IsRefused, Meets, Reads, Scanned, Scans, Updates, IsOf, Knows, MemoryView, PortView, AreFrom, HasWorked, Works, EndEach, EndsAt, HasMetMonitor, IsStageDone, IsWorking, GoesOnNoting, Sees, StagesWatched, last_value, published_count, StageEnd, Finished, applied_by, entry_of, Updated, Stage, Worked}, Pipes.read_makes_none}
+use Rattle.partial_pipeline.proofs.{Common.{ℕ, zero, suc, ◌≡◌, ◌+◌, ◌<◌, ◌≤◌, ◌++◌, List, [], ◌∷◌, length, take, slice_index_or, refl, sym, ◌∙◌, ap, subst, inl, inr, Option, Some, append-nil, append_assoc, length-take, arith, AllByRecursion, Applied, Opening, Call, Answer, Note, Noted, LegalNotes, seen_after, places_written, wrote, all_append, all_weaker, shown_within, Goes, IsRefused, Meets, Reads, Scanned, Scans, Updates, IsOf, Knows, MemoryView, PortView, AreFrom, HasWorked, Works, EndEach, EndsAt, HasMetMonitor, IsStageDone, IsWorking, GoesOnNoting, Sees, StagesWatched, last_value, published_count, StageEnd, Finished, applied_by, entry_of, Stage, Worked}, Pipes.read_makes_none}
 use Rattle.partial_long_lived.specs.declared.answers.Updated.TheVariants.{Applied as IsApplied, Lost}
 use Rattle.partial_long_lived.specs.declared.error.Refused.{Refused}
 
@@ -143,10 +143,6 @@ works_lost m x q v by w own next most updates =
     let noted : Noted = record { call = Call.Update x.port.number v; answer = Answer.Lost by; note = Some (Note.Lost updates.0) } in
     works_tried m x q v x.count noted w own updates.1.goes.number updates.1.goes.notes refl next most w.most (omega (arith, next)) refl
 
-pub number_update : (p q : PortView) (j v : ℕ) (u : Updated) → Updates p j v u q → q.number ≡ p.number
-number_update p q j v (IsApplied s) w = w.1.goes.number
-number_update p q j v (Lost by) w = w.1.goes.number
-
 -- a stage that has ended
 pub is_done : (m : MemoryView) (x : Stage) (k : ℕ) (w : Worked) → IsWorking m x → Knows x.port.memory.about x.port.number x.port.seen x.port.notes → x.port.number ≡ k → w.port ≡ x.port →
     (w.end ≡ Finished → x.count ≡ x.items) → IsStageDone m x.items k w
@@ -261,10 +257,6 @@ from_front P k (y ∷ xs) x w =
 pub from_all : {A : Type 0} (P : ℕ → A → Type 0) (Q : A → Type 0) → ((i : ℕ) (x : A) → P i x → Q x) → (k : ℕ) (xs : List A) → AreFrom P k xs → AllByRecursion Q xs
 from_all P Q f k [] w = tt
 from_all P Q f k (x ∷ xs) w = (f k x w.0, from_all P Q f (k + 1) xs w.1)
-
-pub from_map : {A B : Type 0} (P : ℕ → A → Type 0) (Q : ℕ → B → Type 0) (g : A → B) → ((i : ℕ) (x : A) → P i x → Q i (g x)) → (k : ℕ) (xs : List A) → AreFrom P k xs → AreFrom Q k (map g xs)
-from_map P Q g f k [] w = tt
-from_map P Q g f k (x ∷ xs) w = (f k x w.0, from_map P Q g f (k + 1) xs w.1)
 
 -- the element at a place
 pub from_get : {A : Type 0} (P : ℕ → A → Type 0) (k i : ℕ) (xs : List A) (x : A) → AreFrom P k xs → i < length xs → x ≡ slice_index_or xs i x → P (k + i) x

@@ -26,9 +26,6 @@ zero_calls [] w = refl
 zero_calls (c ∷ cs) w = ap (λ (b : Bool). if b then c ∷ calls_by 0 cs else calls_by 0 cs) (same_eqb c.port 0 w.0) ∙ ap (λ (l : List Called). c ∷ l) (zero_calls cs w.1)
 
 -- all entries are of port 0
-kept_place : (b : Bool) (k : ℕ) (ks : List ℕ) → (if b then k ∷ ks else ks) ≡ [] → (b ≡ false) × (ks ≡ [])
-kept_place b k ks h = kept_none b k ks h
-
 zero_places : (h : List Applied) (k : ℕ) → ((q : ℕ) → 0 < q → places_by q k h ≡ []) → places_by 0 k h ≡ range_with_len k (length h)
 zero_places [] k none = refl
 zero_places (e ∷ h) k none =
@@ -154,11 +151,6 @@ adds_own o h low n began ended k (suc d) later c a rest from place shown within 
       later = later;
       legal = legal;
     }
-
--- the truth of a note alone
-true_note : (o : Opening) (h : List Applied) (seen : ℕ) (c : Call) (a : Answer) (b : Option Note) → IfSome b (λ note. IsTrueOf o h 0 c a note × (seen ≤ place_of note)) → IfSome b (IsTrueOf o h 0 c a)
-true_note o h seen c a None w = tt
-true_note o h seen c a (Some b) w = w.0
 
 goes_noted : (o : Opening) (h : List Applied) (low n began ended d seen : ℕ) (c : Call) (a : Answer) (b : Option Note) (rest : List Noted) → low ≤ began → began ≤ ended → ended ≤ n →
     IfSome b (λ note. (began ≤ place_of note) × (shown_by note ≤ ended)) → IsLegal o h 0 seen (record { call = c; answer = a; note = b }) → LegalNotes o h 0 (seen_after seen b) rest → wrote b ++

@@ -4,7 +4,7 @@ pub use Rattle.std.specs.declared.alloc.Global.{Global}
 pub use Rattle.std.specs.declared.vec.Vec.{Vec}
 pub use Rattle.std.specs.{List.{AllByRecursion, filter_map, cons_option, range_with_len, filter, zip, sum_by}, Option.{option_map, option_map_or, IsSome, is_some, option_to_list}}
 pub use Rattle.std.proofs.Math.Seq.{drop-append-add, drop-append_seam, take-append-add, take-append_seam, take-length}
-pub use Rattle.std.proofs.lemmas.{Bool.{ne_eqb, cases_lt, false≢true, ltb-true, cases_eq, eq-eqb, eqb-true}, List.{append-nil, length_push, map_push, ext_get_or, take-take, take-append-le, map-append, length-map, length-replicate, length-set, get_or-set_same, get_or-map, take_all, replicate-append-replicate, take-append-drop, drop-append-le, with_items_is}, Option.{get_or_from_slice_get, slice_get_within, slice_get-get_or}}
+pub use Rattle.std.proofs.lemmas.{Bool.{ne_eqb, cases_lt, false≢true, ltb-true, cases_eq, eq-eqb, eqb-true}, List.{append-nil, length_push, map_push, ext_get_or, take-take, take-append-le, map-append, length-map, length-replicate, length-set, get_or-set_same, get_or-map, take_all, replicate-append-replicate, take-append-drop, drop-append-le}, Option.{get_or_from_slice_get, slice_get_within, slice_get-get_or}}
 pub use Rattle.std.proofs.lemmas.Bool.Decides.{eqb_tells}
 pub use Rattle.std.proofs.lemmas.List.{Elements.{filter-append, filter_map-append}, Sums.{sum_by-cons, sum_by_push, sum_by-append}}
 pub use Rattle.partial_model.specs.declared.call.{Answer.Answer, Call.Call, Called.Called, Finish.Finish, Note.Note, Refused.Refused}
@@ -18,14 +18,13 @@ pub use Rattle.partial_words.proofs.ChainLemmas.{value_behind_stamp, prev_before
 pub use Rattle.partial_machine.specs.declared.stage.{Reply.Reply, Stage.Stage}
 pub use Rattle.partial_machine.specs.declared.stage.Stage.TheVariants.{Idle, ReadBegun, UpdateBegun, ScanBegun, Finished}
 pub use Rattle.partial_machine.specs.{Bounds.{most_steps, steps_left, most_of_update}, Calls.{answer_for, begun_of, refusal_of, IsServed, begin_scan, is_begun, is_at_rest, makes_steps, call_of}, Machine.{CoreState, at_stage, advance, reply_of, fresh, step_of, reply_at, step_at, scanned_values}, Possible.IsPossible, Sound.{IsSound, AreComponentIndices}}
-pub use Rattle.partial_machine.proofs.Laws.{due_is_unreplied, rests_are_sound, calls_begin, calls_are_refused_at_once, answers_lead_on, stays_sound, scans_make_their_steps}
+pub use Rattle.partial_machine.proofs.Laws.{due_is_unreplied, rests_are_sound, calls_begin, calls_are_refused_at_once, stays_sound, scans_make_their_steps}
 pub use Rattle.partial_core.specs.{Lawful.Lawful, Part.{Part, core_of, port_of, IsBetween, IsMachineOf, fresh_parts, IsMarkedLike, KeptAnswer, first_at, HasBegun}, Steps.{LeadsOn, added_by, AreNotesOf, IsNoteOf, IsRefusal, PublishesWithin, begun_with, kept_with}}
 pub use Rattle.partial_core.proofs.Laws.{opens_lawful, calls_begin_between, lawful_ports_fit, lawful_records_are_within, steps_stay_lawful, lawful_machines_are_ready}
-pub use Rattle.partial_text.specs.declared.outcome.Outcome.{Outcome}
 pub use Rattle.partial_text.specs.Replayed.{calls_in_order}
 pub use Rattle.partial_text.specs.PlanText.{PlanView, IsPlan, IsCall, IsTurnEntry}
 pub use Rattle.partial_replay.specs.declared.memory.Memory.{Memory}
 pub use Rattle.partial_replay.specs.declared.port.{Port.Port, UnderWay.UnderWay}
 pub use Rattle.partial_replay.specs.declared.run.Run.{Run}
-pub use Rattle.partial_replay.specs.{CallSteps.{Makes, HasSteps, IsFinishedAtOnce, IsRefusedAtOnce, IsCallRun, AreStepsOf}, Listed.{calls_by, AreFirstOf, AreAllMade, AreFew, EndInStep, steps_by, HaveMade, steps_in}, Place.{HasLeastPlace, Shows, IsLeastFrom, IsPlaceFrom, IsNoteFrom, prefix_from, HasNoneFrom}, Replayed.{IsReplayOf, turn_lengths, OutcomeView, outcome_view, replayed_view}, ScanPlace.{values_after, values_now, is_other, marks_before, AreMarked, AllHave, AreWanted, AreMarksOf, HasRecord, HasRecords, IsLeft, IsEmpty, IsLeast, ShowsValues, AreWantedComponents}, Trace.{Moment, last_behind, event_entry, moments_from, moments_by, ports_of, events_in, adds, is_won, new_of}, Turns.{BeginInTurns, turns_of, turns_by, lengths_in, so_many, to_its_end, made_in, left_behind, ports_in, idle_in, lengths_of}}
+pub use Rattle.partial_replay.specs.{CallSteps.{Makes, HasSteps, IsFinishedAtOnce, IsRefusedAtOnce, IsCallRun, AreStepsOf}, Listed.{calls_by, AreFirstOf, AreAllMade, AreFew, EndInStep, steps_by, HaveMade, steps_in}, Place.{HasLeastPlace, Shows, IsLeastFrom, IsPlaceFrom, IsNoteFrom, prefix_from, HasNoneFrom}, Replayed.{IsReplayOf, turn_lengths, OutcomeView, replayed_view}, ScanPlace.{values_after, values_now, is_other, marks_before, AreMarked, AllHave, AreWanted, AreMarksOf, HasRecord, HasRecords, IsLeft, IsLeast, ShowsValues, AreWantedComponents}, Trace.{Moment, last_behind, event_entry, moments_from, moments_by, ports_of, events_in, adds, is_won, new_of}, Turns.{BeginInTurns, turns_of, turns_by, lengths_in, so_many, to_its_end, made_in, left_behind, ports_in, idle_in, lengths_of}}
 pub use Rattle.partial_replay.specs.Inner.{PortState.{AreFinished, IsCallUnderWay, PortFits, end_of_call, ends_of, notes_in, unfinished_call, IsCallGoing, HasTurned, steps_under_way, IsFinishedCall, IsDoneAtOnce, entry_at, one_step_more, IsEndedCall, CallGoesOn, Ends, StepMade, PortMade, KeepsMade, began_at, ended_call, core_behind, event_of, AreWithin, ScanHasValues, MayAnswer, IsExchangeWithin, MayStep, KeepsFit, BeginsInTurn}, RunState.{ReplayState, state_of, PortAt, PortsFit, no_ports, first_port, IsRunOf, left_over, calls_in, FreshFrom, AreFreshPorts, AreListed, ArePlans, ArePortsMade, AreStarted, AreStartedBut, unvalued, IsBetweenTurns, TellsOutcome, left_for, port_left, port_left_at, IsTurnReady, ChangesPortsOnly, IsSameOpening}, TurnState.{MakeTurns, HasTurns, StopsAtStep, StopAtSteps, IsPortDone, HasMadeTurns, BeganInTurns, lengths_so_far, HaveBegun, StayDone, StayStopped, StayStoppedBut, StayStoppedWith, GoesOnBy, own_turns, BeginsIn, StepsIn, GoesOnIn, moments_behind, TurnMade, StepsMade, TurnsMade, HasReplayed}}

@@ -107,12 +107,6 @@ opens_run plans s sizes values first opening empty none few fresh =
       made = fresh_made plans s none fresh.1;
     }
 
-pub listed_length : (plans : List (List Call)) (ports : List Port) → AreListed plans ports → length ports ≡ length plans
-listed_length [] [] w = refl
-listed_length (c ∷ plans) (t ∷ ports) w = ap suc (listed_length plans ports w.2)
-listed_length [] (t ∷ ports) w = absurd w
-listed_length (c ∷ plans) [] w = absurd w
-
 -- the ports of a run list their calls
 pub run_listed : {o : Opening} {log : List Applied} {q : ℕ} {plans : List (List Call)} {parts : List Part} {ports : List Port} (m : ℕ) → PortsFit o log q plans parts ports → ArePlans m plans →
     AreListed plans ports

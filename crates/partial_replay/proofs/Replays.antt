@@ -13,9 +13,6 @@ past_get (x ∷ xs) zero d past = absurd (omega (arith, past))
 past_get (x ∷ xs) (suc i) d past = past_get xs i d (omega (arith, past))
 
 module _ {plans : List (List Call)} {s : ReplayState} (w : IsRunOf plans s) where
-  abbrev log : List Applied
-  log = s.memory.history.items
-
   abbrev listed : List Called
   listed = calls_in plans s.ports
 

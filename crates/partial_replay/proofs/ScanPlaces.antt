@@ -1,5 +1,5 @@
 -- The search for the place of a scan: what is marked at each place, and that the least place is found.
-use Rattle.partial_replay.proofs.Common.{ℕ, zero, suc, ◌≡◌, ◌≢◌, ◌+◌, ◌-◌, ◌<◌, ◌≤◌, ◌==◌, ◌++◌, ◌⊎◌, Bool, true, false, not, if◌then◌else◌, List, [], ◌∷◌, length, map, take, slice_index_or, slice_index, slice_set, count_by, Option, Some, None, slice_get, refl, sym, ◌∙◌, ap, subst, inl, inr, get_or-set_other, arith, AllByRecursion, option_map_or, false≢true, cases_eq, cases_lt, eq-eqb, eqb-true, length-set, get_or-set_same, get_or-map, length-map, sum_by-cons, get_or_from_slice_get, slice_get_within, Applied, Opening, last_entry, initial_stamp, stamp_of, last_entry-passed, stamp_all, AllByRecursion-get, position_below, Agrees, prev_of, record_value, values_after, values_now, is_other, marks_before, AreMarked, AllHave, AreWanted, AreMarksOf, HasRecord, HasRecords, IsLeft, IsEmpty, IsLeast, ShowsValues, value_word, take-length, value_behind_stamp, prev_before_entry, AreWantedComponents}
+use Rattle.partial_replay.proofs.Common.{ℕ, zero, suc, ◌≡◌, ◌≢◌, ◌+◌, ◌-◌, ◌<◌, ◌≤◌, ◌==◌, ◌++◌, ◌⊎◌, Bool, true, false, not, if◌then◌else◌, List, [], ◌∷◌, length, map, take, slice_index_or, slice_index, slice_set, count_by, Option, Some, None, slice_get, refl, sym, ◌∙◌, ap, subst, inl, inr, get_or-set_other, arith, AllByRecursion, option_map_or, false≢true, cases_eq, cases_lt, eq-eqb, eqb-true, length-set, get_or-set_same, get_or-map, length-map, sum_by-cons, get_or_from_slice_get, slice_get_within, Applied, Opening, last_entry, initial_stamp, stamp_of, last_entry-passed, stamp_all, AllByRecursion-get, position_below, Agrees, prev_of, record_value, values_after, values_now, is_other, marks_before, AreMarked, AllHave, AreWanted, HasRecord, HasRecords, IsLeast, ShowsValues, value_word, take-length, value_behind_stamp, prev_before_entry, AreWantedComponents}
 use Rattle.std.proofs.lemmas.Grind.{same_number_lists}
 
 -- the values in the words are those after the whole history
@@ -252,35 +252,6 @@ shown_have wanted components values f g w shown all =
     let is = w.each k within in
     ap (λ (l : List ℕ). slice_index l k) shown ∙ get_or-map g components k 0 0 within ∙ sym (have_shown wanted components values g w shown j is.0 is.1) ∙ all j is.0 is.1 ∙
     sym (get_or-map f components k 0 0 within))
-
--- one position less
-pub left_less : (wanted : List (Option ℕ)) (components : List ℕ) (k c : ℕ) → slice_index components k ≡ c → c < length wanted → IsLeft wanted components k → IsLeft (slice_set wanted c None) components (k + 1)
-left_less wanted components k c component within left j v wants = elim (cases_eq j c) [
-  | inl here ↦
-      let bad : None ≡ Some v = sym (ap (λ n. slice_index_or (slice_set wanted c None) n None) here ∙ get_or-set_same wanted c None None within) ∙ wants in
-      cc
-  | inr other ↦
-      let was = left j v (sym (get_or-set_other wanted c j None None other) ∙ wants) in
-      let past : k ≢ was.0 = λ is. other (sym was.3 ∙ ap (λ n. slice_index components n) (sym is) ∙ component) in
-      (was.0, omega (arith, was.1, past), was.2, was.3)
-]
-
-pub marks_less : (wanted : List (Option ℕ)) (marks : List Bool) (c : ℕ) → c < length marks → AreMarksOf wanted marks → AreMarksOf (slice_set wanted c None) (slice_set marks c false)
-marks_less wanted marks c room of j none = elim (cases_eq j c) [
-  | inl here ↦ ap (λ n. slice_index_or (slice_set marks c false) n false) here ∙ get_or-set_same marks c false false room
-  | inr other ↦ get_or-set_other marks c j false false other ∙ of j (sym (get_or-set_other wanted c j None None other) ∙ none)
-]
-
--- at the end nothing is left
-pub nothing_left : (wanted : List (Option ℕ)) (marks : List Bool) (components : List ℕ) (k : ℕ) → length components ≤ k → length wanted ≡ length marks → IsLeft wanted components k →
-    AreMarksOf wanted marks → IsEmpty wanted marks
-nothing_left wanted marks components k end room left of =
-    let none : (j : ℕ) → slice_index_or wanted j None ≡ None = λ j. no (slice_index_or wanted j None) j refl in
-    record { room = room; none = none; clear = λ j. of j (none j) }
-  where
-    no : (w : Option ℕ) (j : ℕ) → slice_index_or wanted j None ≡ w → w ≡ None
-    no None j is = refl
-    no (Some v) j is = let at = left j v is in absurd (omega (arith, at.1, at.2, end))
 
 -- what the search for a scan's place finds is the least place that shows its values
 pub least_shown : (o : Opening) (h : List Applied) (wanted : List (Option ℕ)) (components values : List ℕ) (began shown least : ℕ) → AreWanted wanted components values (length components) →

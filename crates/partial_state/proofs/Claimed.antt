@@ -103,7 +103,3 @@ module _ (z : Layout) (o : Opening) (words : List ℕ) (hs : List Holding) (log 
   -- a word of a record of the history, or of an initial one, is published
   pub entry_published : (k : ℕ) (e : Applied) (n : ℕ) → slice_get log k ≡ Some e → n < (block_at words e.stamp).size → IsPublished z words (unpublished hs) (e.stamp + n)
   entry_published k e n s below = block_published z words (unpublished hs) (block_at words e.stamp) (e.stamp + n) (entry_claimed k e s) (entry_free k e s) (omega arith) (omega (arith, below))
-
-  pub initial_published : (n : ℕ) → n < initial_words z → IsPublished z words (unpublished hs) (pool_base z + n)
-  initial_published n below = block_published z words (unpublished hs) (record { at = pool_base z; size = initial_words z }) (pool_base z + n) (inr (omega arith, (w.counters PoolWords).low)) initial_free
-      (omega arith) (omega (arith, below))

@@ -1,5 +1,5 @@
 -- What reads and writes in a row do to the known bytes.
-use Rattle.partial_text.proofs.Common.{◌≡◌, ℕ, ◌+◌, ◌-◌, ◌≤◌, List, [], ◌++◌, length, take, drop, Option, None, Some, refl, sym, ap, ◌∙◌, append_assoc, arith, append-nil, take_rest, drop-drop, length-drop, Appends, Consumes, Keeps}
+use Rattle.partial_text.proofs.Common.{◌≡◌, ℕ, ◌+◌, ◌-◌, ◌≤◌, List, [], ◌++◌, length, take, drop, Option, None, Some, sym, ap, ◌∙◌, append_assoc, arith, append-nil, take_rest, drop-drop, length-drop, Appends}
 use Rattle.std.proofs.Math.Seq.{take-add}
 
 pub Appends_none : (a : Option (List ℕ)) → Appends a a []
@@ -11,22 +11,6 @@ Appends_then None b c xs ys p q = tt
 Appends_then (Some x) None c xs ys p q = absurd p
 Appends_then (Some x) (Some y) None xs ys p q = absurd q
 Appends_then (Some x) (Some y) (Some z) xs ys p q = q ∙ ap (λ (l : List ℕ). l ++ ys) p ∙ append_assoc x xs ys
-
-pub Appends_kept : (a b c : Option (List ℕ)) (xs : List ℕ) → Appends a b xs → Keeps b c → Appends a c xs
-Appends_kept None b c xs p q = tt
-Appends_kept (Some x) None c xs p q = absurd p
-Appends_kept (Some x) (Some y) None xs p q = absurd q
-Appends_kept (Some x) (Some y) (Some z) xs p q = q ∙ p
-
-pub Consumes_none : (a : Option (List ℕ)) → Consumes a a []
-Consumes_none None = tt
-Consumes_none (Some x) = refl
-
-pub Consumes_then : (a b c : Option (List ℕ)) (xs ys : List ℕ) → Consumes a b xs → Consumes b c ys → Consumes a c (xs ++ ys)
-Consumes_then None b c xs ys p q = tt
-Consumes_then (Some x) None c xs ys p q = absurd p
-Consumes_then (Some x) (Some y) None xs ys p q = absurd q
-Consumes_then (Some x) (Some y) (Some z) xs ys p q = p ∙ ap (λ (l : List ℕ). xs ++ l) q ∙ sym (append_assoc xs ys z)
 
 -- a write took n more bytes of the text
 pub written_more : (a b c : Option (List ℕ)) (text rest : List ℕ) (n : ℕ) → length rest ≤ length text → rest ≡ drop (length text - length rest) text →

@@ -1,6 +1,6 @@
 -- The names that several proofs of this crate take from elsewhere.
 pub use Rattle.std.proofs.Common.{◌≡◌, ℕ, ◌+◌, ◌*◌, ◌^◌, ◌<◌, ◌≤◌, Bool, true, false, if◌then◌else◌, nat_eq, ◌==◌, nat_le, nat_lt, ◌&&◌, List, [], ◌∷◌, ◌++◌, length, map, drop, codes, Result, Ok, Err, refl, sym, ap, subst, ◌∙◌, append_assoc, eq-eqb, arith, ◌-◌, take, Option, None, Some, slice_index, ◌⊎◌, inl, inr, zero, suc, ◌/◌, ◌%◌, ◌≢◌, slice_set, zero-add, add-one, add-zero}
-pub use Rattle.std.specs.Io.KnownBytes.{Appends, Consumes, Keeps, IsAtEnd}
+pub use Rattle.std.specs.Io.KnownBytes.{Appends, Consumes, IsAtEnd}
 pub use Rattle.std.specs.{List.{flat_map, AllByRecursion}, Option.{ok_or, option_map_or}, Prelude.{decimal, option_and_then, IfSome, IfOk}, Str.bytes_eq}
 pub use Rattle.std.proofs.Math.Dec.{eqb-suc-zero, eqb_refl}
 pub use Rattle.std.proofs.lemmas.{Bool.{ne_eqb, le-leb, lt-ltb, le-ltb, eqb-true, ltb-false, leb-true, ltb-true, eqb-false, cases_lt}, Fmt.{decimal_nonempty, decimal_by_steps, decimal_digit, decimal_step, first_decimal}, List.{append-nil, length-append, length-map, take_rest, drop-drop, length-drop, at_drop_more, at_drop_all, take_more, take_all, get_or-drop, get_or-set_same, get_or-set_other, length-set, ext_get_or}, Result.err_from_is_err_and}

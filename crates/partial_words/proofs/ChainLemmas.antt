@@ -1,5 +1,5 @@
 -- Chains of records: what a step elsewhere leaves of them, what one entry more adds, and what they hold.
-use Rattle.partial_words.proofs.Common.{◌≤◌, ℕ, zero, suc, ◌≡◌, ◌≢◌, ◌+◌, ◌<◌, ◌==◌, ◌++◌, ◌⊎◌, Bool, true, false, if◌then◌else◌, List, [], ◌∷◌, length, take, slice_index, slice_set, slice_get, refl, sym, ◌∙◌, ap, subst, inl, inr, Option, Some, None, get_or-set_other, length-set, arith, eq-eqb, AllByRecursion, Opening, view_word, prev_of, record_value}
+use Rattle.partial_words.proofs.Common.{◌≤◌, ℕ, zero, suc, ◌≡◌, ◌+◌, ◌<◌, ◌==◌, ◌++◌, ◌⊎◌, Bool, true, false, if◌then◌else◌, List, [], ◌∷◌, length, take, slice_index, slice_get, refl, sym, ◌∙◌, ap, subst, inl, inr, Option, Some, None, arith, eq-eqb, AllByRecursion, Opening, view_word, prev_of, record_value}
 use Rattle.std.proofs.lemmas.List.{take_all}
 use Rattle.std.specs.Option.{option_map_or}
 use Rattle.partial_model.specs.declared.history.Applied.{Applied}
@@ -7,33 +7,6 @@ use Rattle.partial_model.specs.History.{last_from, initial_stamp, stamp_of, valu
 use Rattle.partial_model.proofs.HistoryLemmas.{stamp_of-push}
 use Rattle.partial_words.specs.declared.record.Link.{Link}
 use Rattle.partial_words.specs.Chain.{IsLink, IsChain, links_from, chain_of, Agrees, LastEntriesHeadChains, LieWithin}
-
--- the step to another word leaves the record
-pub record IsElsewhere (w : ℕ) (stamp : ℕ) : Type 0 where
-  pub prev : stamp ≢ w
-  pub value : stamp + 1 ≢ w
-
-prev_kept : (words : List ℕ) (w v at : ℕ) → IsElsewhere w at → prev_of (slice_set words w v) at ≡ prev_of words at
-prev_kept words w v at e = get_or-set_other words w at v 0 e.prev
-
-value_kept : (words : List ℕ) (w v at : ℕ) → IsElsewhere w at → record_value (slice_set words w v) at ≡ record_value words at
-value_kept words w v at e = get_or-set_other words w (at + 1) v 0 e.value
-
-link_kept : (words : List ℕ) (w v at : ℕ) (l : Link) → IsElsewhere w at → IsLink words at l → IsLink (slice_set words w v) at l
-link_kept words w v at l e c = record {
-  stamp = c.stamp;
-  within = let count = length-set words w v in let within = c.within in omega (arith, count, within);
-  value = value_kept words w v at e ∙ c.value;
-}
-
-pub chain_kept : (words : List ℕ) (w v at : ℕ) (links : List Link) → AllByRecursion (λ l. IsElsewhere w l.stamp) links → IsChain words at links → IsChain (slice_set words w v) at links
-chain_kept words w v at [] all c = c
-chain_kept words w v at (l ∷ []) all c =
-    let e : IsElsewhere w at = subst (IsElsewhere w) c.0.stamp all.0 in
-    (link_kept words w v at l e c.0, prev_kept words w v at e ∙ c.1)
-chain_kept words w v at (l ∷ k ∷ ls) all c =
-    let e : IsElsewhere w at = subst (IsElsewhere w) c.0.stamp all.0 in
-    (link_kept words w v at l e c.0, subst (λ n. IsChain (slice_set words w v) n (k ∷ ls)) (sym (prev_kept words w v at e)) (chain_kept words w v (prev_of words at) (k ∷ ls) all.1 c.1))
 
 -- a record before a chain is a chain
 pub chain_cons : (words : List ℕ) (at prev : ℕ) (l : Link) (links : List Link) → IsLink words at l → prev_of words at ≡ prev → IsChain words prev links → IsChain words at (l ∷ links)

@@ -1,5 +1,5 @@
 -- The names that several proofs of this crate take from elsewhere.
-pub use Rattle.std.proofs.Common.{arith, ◌∙◌, ap, ℕ, List, length, sym, ◌+◌, ◌<◌, ◌≡◌, [], slice_index_or, refl, suc, ◌%◌, ◌*◌, ◌-◌, ◌/◌, ◌∷◌, ◌≤◌, if◌then◌else◌, inl, inr, zero, ◌==◌, Bool, None, Option, Some, false, get_or-set_other, length-set, lit<, slice_set, slice_get, slice_index, subst, take, true, ◌++◌, ◌≢◌, ◌⊎◌}
+pub use Rattle.std.proofs.Common.{arith, ◌∙◌, ap, ℕ, List, length, sym, ◌+◌, ◌<◌, ◌≡◌, [], slice_index_or, refl, suc, ◌%◌, ◌*◌, ◌-◌, ◌/◌, ◌∷◌, ◌≤◌, if◌then◌else◌, inl, inr, zero, ◌==◌, Bool, None, Option, Some, false, length-set, lit<, slice_set, slice_get, slice_index, subst, take, true, ◌++◌, ◌⊎◌}
 pub use Rattle.std.specs.List.{flat_map, AllByRecursion}
 pub use Rattle.std.proofs.lemmas.Bool.{cases_lt, eq-eqb}
 pub use Rattle.partial_model.specs.declared.history.Opening.{Opening}

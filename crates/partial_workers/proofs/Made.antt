@@ -69,10 +69,7 @@ fills_made m p q all n w (inl is) = subst (λ (l : List Noted). Fills m 0 l (all
 fills_made m p q all n w (inr new) =
     subst (λ (l : List Noted). Fills m 0 l (all ++ n ∷ [])) (sym new.1) (fills_unnoted m 0 p.notes all n w (subst (λ k. IsUnnoted m k n) (sym (fills_seen m 0 p.notes all w)) new.0))
 
--- a port that has made no call, and one call more
-pub made_none : (m : ℕ) (q : PortView) → q.notes ≡ [] → AreMade m [] [] q
-made_none m q none = record { all = []; calls = refl; answers = refl; fills = none }
-
+-- one call more
 pub made_more : (m : ℕ) (cs : List Call) (given : List Answer) (c : Call) (a : Answer) (p q : PortView) → AreMade m cs given p → IsMade m p c a q → AreMade m (cs ++ c ∷ []) (given ++ a ∷ []) q
 made_more m cs given c a p q had new =
     record {
@@ -81,11 +78,6 @@ made_more m cs given c a p q had new =
       answers = map-append (λ (n : Noted). n.answer) had.all (new.noted ∷ []) ∙ ap (λ (l : List Answer). l ++ new.noted.answer ∷ []) had.answers ∙ ap (λ (x : Answer). given ++ x ∷ []) new.answer;
       fills = fills_made m p q had.all new.noted had.fills new.notes;
     }
-
--- the same of a port that has noted the same
-pub made_same : (m : ℕ) (cs : List Call) (given : List Answer) (p q : PortView) → AreMade m cs given p → q.notes ≡ p.notes → AreMade m cs given q
-made_same m cs given p q had same =
-    record { all = had.all; calls = had.calls; answers = had.answers; fills = subst (λ (l : List Noted). Fills m 0 l had.all) (sym same) had.fills }
 
 -- one more of the first calls
 pub made_next : (m n next : ℕ) (cs : List Call) (given : List Answer) (c : Call) (a : Answer) (p q : PortView) → AreMade m (take n cs) given p → n < length cs → c ≡ slice_index_or cs n c → next ≡ n + 1 →

@@ -36,14 +36,6 @@ module _ {A B : Type 0} (P : ℕ → A → B → Type 0) where
       let taken : take next xs ≡ take n xs ++ x ∷ [] = ap (λ i. take i xs) one ∙ take-suc xs n x within ∙ ap (λ (v : A). take n xs ++ v ∷ []) (sym at) in
       subst (λ (l : List A). AreEach P k l (ys ++ y ∷ [])) (sym taken) more
 
--- what follows of each pair follows of all
-pub each_weaker : {A B C : Type 0} (P : ℕ → A → B → Type 0) (Q : ℕ → A → C → Type 0) (f : B → C) → ((k : ℕ) (a : A) (b : B) → P k a b → Q k a (f b)) → (k : ℕ) (xs : List A) (ys : List B) →
-    AreEach P k xs ys → AreEach Q k xs (map f ys)
-each_weaker P Q f g k [] [] w = tt
-each_weaker P Q f g k [] (y ∷ ys) w = absurd w
-each_weaker P Q f g k (x ∷ xs) [] w = absurd w
-each_weaker P Q f g k (x ∷ xs) (y ∷ ys) w = (g k x y w.0, each_weaker P Q f g (k + 1) xs ys w.1)
-
 -- an element of the second list belongs to some element of the first
 pub each_some : {A B : Type 0} (P : ℕ → A → B → Type 0) (k n : ℕ) (xs : List A) (ys : List B) (y : B) → AreEach P k xs ys → n < length ys → y ≡ slice_index_or ys n y → (x : A) × P (k + n) x y
 each_some P k n [] [] y w within is = absurd (omega (arith, within))
