@@ -128,7 +128,7 @@ static void test_refused_openings(void)
     const partial_arena many_lists = {65537, 16};
     const partial_arena large_pool = {4, 4194304};
     check(partial_memory_new(initial, 1, 0, &memory) == PARTIAL_PORT_COUNT, "no port is refused");
-    check(partial_memory_new(initial, 0, 65, &memory) == PARTIAL_PORT_COUNT, "65 ports are refused first");
+    check(partial_memory_new(initial, 0, 256, &memory) == PARTIAL_PORT_COUNT, "256 ports are refused first");
     check(partial_memory_new(initial, 0, 1, &memory) == PARTIAL_COMPONENTS, "no component is refused");
     check(partial_memory_new(initial, 65537, 1, &memory) == PARTIAL_COMPONENTS, "65537 are refused");
     check(partial_memory_new_with(initial, 1, 1, &many_lists, &memory) == PARTIAL_LIST_WORDS, "65537 list words are refused");

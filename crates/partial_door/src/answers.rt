@@ -70,7 +70,7 @@ pub struct RoomSizes {
 pub struct ArenaSizes {
     /// How many list words there are, for lists of vacated slots: at most 65,536.
     pub lists: u32,
-    /// How many pool words are claimed in an epoch before the memory goes on to the next one: at most 4,194,304, less 4
+    /// How many pool words are claimed in an epoch before the memory goes on to the next one: at most 4,194,304, less 97
     /// for each port, 2 for each port and component, and 3 for each component. 0 means as many as suit the number of
     /// ports.
     pub pool: u32,
