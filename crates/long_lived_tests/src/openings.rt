@@ -93,14 +93,14 @@ fn refused_openings(rt: HostRuntime) -> Result<(), Fail> {
     let alloc = rt.alloc();
     let most = Options {
         lists: 65_536,
-        pool: Some(4_194_295),
+        pool: Some(4_194_202),
     };
     let lists = Options {
         lists: 65_537,
-        pool: Some(4_194_296),
+        pool: Some(4_194_203),
     };
     let pool = Options {
-        pool: Some(4_194_296),
+        pool: Some(4_194_203),
         ..most
     };
     refused(&rt, alloc, &[], 0, lists, OpenError::Ports);
