@@ -14,7 +14,7 @@ trap 'rm -rf "$room"' EXIT
 wanted=" $* "
 passed=0
 failed=0
-handed_up=$'^growth refused\nerror: (AllocError|Check|[A-Za-z]+\\(OutOfMemory\\))\nthe test failed: its result gives status 1$'
+handed_up=$'^growth refused\nerror: (AllocError|AllocFailed \\{ \\.\\. \\}|Check|[A-Za-z]+\\(OutOfMemory\\))\nthe test failed: its result gives status 1$'
 
 # refuse TESTS NAME GROWTH: runs a test with the growth of that number refused, and judges it. Counts in `came`
 # a test that reached that growth. Where `manages` is set, it may also pass: it then says itself that all was done.
