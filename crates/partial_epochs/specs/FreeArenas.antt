@@ -27,7 +27,7 @@ pub record Tally : Type 0 where
 abbrev pub first_tally : Tally
 first_tally = record { arrivals = 0; freed = 0; taken = λ _. 0; met = λ _. false }
 
--- the word of a port names arena x, marked or not
+-- the word of a port names arena x, with the entering bit or without it
 pub record IsNamed (e : Plan) (words : List ℕ) (x : ℕ) : Type 0 where
   pub port : ℕ
   pub inside : port < e.ports
@@ -63,7 +63,7 @@ pub record KeepsTally (e : Plan) (words : List ℕ) (ports : ℕ → Port) (t : 
   pub owners : (x : ℕ) → x < e.arenas → slice_index words (own_word e x) ≢ 0 → IsOwnedBySome e words ports x
   -- no arena was taken after more arrivals than there have been
   pub taken : (k : ℕ) → k < e.ports → t.taken k ≤ t.arrivals
-  -- a mark that an owner holds is still its port's word, unless a port has moved to another site since
+  -- an entering word that an owner holds is still its port's word, unless a port has moved to another site since
   pub marks : (k : ℕ) → k < e.ports → IfSome (ports k).control.owned (λ o. IfSome o.mark (λ a.
       (slice_index words (at_word o.clean) ≡ marked a) ⊎ HasSeenArrival t k))
   -- a port that has met another one did so for a cause
@@ -154,7 +154,7 @@ EveryStepCounts = (e : Plan) (words : List ℕ) (ports : ℕ → Port) (b : Besi
     Counts e words (moved_words e words (ports k) k m) ports (put k l.port ports) (site_now b) (site_now l.beside) since
     (since_after b k m since) t k m
 
--- an owner that has looked has met another port when it finds its arena named, or another word than the mark that it holds
+-- an owner that has looked has met another port when it finds its arena named, or another word than the one that it holds
 abbrev pub MeetingsKeepTally : Type 0
 MeetingsKeepTally = (e : Plan) (words : List ℕ) (ports : ℕ → Port) (t : Tally) (k : ℕ) (o : OwnedArena) →
     KeepsTally e words ports t → (ports k).control.owned ≡ Some o → o.looked ≡ true →

@@ -100,7 +100,7 @@ module _ (a : About) (words : List ℕ) (ports : ℕ → Port) (notes : ℕ → 
       meets_another a words words' ports notes b reckoned k below g (owning_port (ports k) o) u search (still_owns words' same).to o refl looked
       (inl (subst (λ (l : List ℕ). IsNamed (plan_of a) l o.arena) same (record { port = o.clean; inside = more; names = there })))
 
-  -- it finds another word than the mark that it holds
+  -- it finds another word than the entering word that it holds
   pub finds_another : (m : Site) → o.mark ≡ Some m → slice_index words (at_word o.clean) ≢ marked m → (words' : List ℕ) → words ≡ words' → Owns words' o (meeting u)
   finds_another m mark other words' same =
       let to = (still_owns words' same).to in
@@ -260,7 +260,7 @@ module _ {S : Type 0} (a : About) (slots id : ℕ) (me : Me S (List SeatedPort))
       ]))
       (λ n. refl)
 
-  -- the exchange of its mark
+  -- the exchange of its entering word
   pub may_put : (o : OwnedArena) (m : Site) → x.port.control.owned ≡ Some o → o.looked ≡ true → o.set ≡ 0 → o.clean < a.ports → o.mark ≡ Some m → o.again ≡ true →
       Allows (IsRuleKept a) slots id me (at_word o.clean) (λ n. either (n == marked m) (packed x.port.control.here) n) (tells (PutsPort o m) me)
   may_put o m owned looked none more mark again = quietly_searching a slots id me one own known (at_word o.clean) (λ n. either (n == marked m) (packed x.port.control.here) n)

@@ -34,7 +34,7 @@ TakesBy w x a y = Takes (w - (1 + x.about.ports)) x a y
 abbrev pub GivesBack : SeatedPort → ℕ → SeatedPort → Type 0
 GivesBack x a y = OfOwned SeatGives x a y
 
--- the exchange of the mark w of a port
+-- the exchange of the entering word w of a port
 abbrev pub PutsBy : ℕ → SeatedPort → ℕ → SeatedPort → Type 0
 PutsBy w x a y = OfOwned (λ o. PutsPort o (unpacked (w - entering_mark))) x a y
 
@@ -115,7 +115,7 @@ abbrev pub Tried : ℕ → Bool → Stand → Type 0
 Tried x true s = HasTaken s x
 Tried x false s = IsIdle s
 
--- it has looked, is done with the ports below q, and has loaded the word a of port q, which is a mark
+-- it has looked, is done with the ports below q, and has loaded the word a of port q, which is an entering word
 pub record HoldsMark (s : Stand) (x q a : ℕ) : Type 0 where
   pub stands : (port_at s).port.control.entering ≡ Stands
   pub owned : OwnedArena
