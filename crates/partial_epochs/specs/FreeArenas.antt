@@ -81,6 +81,7 @@ gives_at Stands false None = 1
 gives_at Stands false (Some o) = if o.looked then 2 else 1
 gives_at _ past owned = 1
 
+-- the same of a port by its control
 abbrev pub gives_left : Control → ℕ
 gives_left c = gives_at c.entering c.past c.owned
 
@@ -111,6 +112,7 @@ may_free e words ports now since t = sum_below (weight e words ports now since t
 abbrev pub most_freed : ℕ → ℕ
 most_freed ports = ports * (2 * ports + 3)
 
+-- arenas may come free at most that number of times, in any state
 abbrev pub FewComeFree : Type 0
 FewComeFree = (e : Plan) (words : List ℕ) (ports : ℕ → Port) (now : ℕ) (since : ℕ → ℕ) (t : Tally) →
     may_free e words ports now since t ≤ most_freed e.ports

@@ -239,13 +239,14 @@ HasFound t j = (port_at t).found ≡ Some (record {
   stamp = stamp_seen (port_at t) (port_at t).port.part.seen j;
 })
 
--- v is the value, or the stamp, of component j that the port has found
+-- v is the value of component j that the port has found
 pub record FoundValue (t : Stand) (j v : ℕ) : Type 0 where
   pub found : Found
   pub is : (port_at t).found ≡ Some found
   pub component : found.component ≡ j
   pub value : v ≡ found.value
 
+-- v is the stamp of component j that the port has found
 pub record FoundStamp (t : Stand) (j v : ℕ) : Type 0 where
   pub found : Found
   pub is : (port_at t).found ≡ Some found
