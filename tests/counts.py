@@ -5,11 +5,12 @@ A figure is between <!--=NAME--> and <!--=-->. NAME is `tests`, the functions of
 the edits that the prover has to refuse, and `edits.CRATE`, those of a crate; `wrong`, the wrong bodies and definitions
 in them, one for each function or law that has to refuse it; `plans`, the files plans/*.plan; `believed`, what
 tests/believed.py finds of the calls of a single opening, or `believed.long_lived` of those of the long-lived memory;
-`components.N`, the most components of a long-lived memory with N ports, `pool.N` the pool words of its arenas, and
-`megabytes.N` or `megabytes.N.M` what it takes with 8 or M components, all at the usual sizes; `steps.SIZE.CALL` a number
-of the law `most_steps_in_numbers`; or `version`, that of the crate for Rust. The rows of README.md's table of speed are those of docs/benches.md, README.md has at most 150 lines,
-and CONTRIBUTING.md and the page on architecture name each crate. With --write the figures are written anew. The last
-line is 'N passed, M failed', one for each figure, row and name.
+`components.N`, the most components of a long-lived memory with N ports, `full` the most ports with which that is the
+greatest number, `pool.N` the pool words of its arenas, `megabytes.N` or `megabytes.N.M` what it takes with 8 or M
+components, and `claims.N` of how many updates one claims, all at the usual sizes; `steps.SIZE.CALL` a number of the law
+`most_steps_in_numbers`; or `version`, that of the crate for Rust. The rows of README.md's table of speed are those of
+docs/benches.md, README.md has at most 150 lines, and CONTRIBUTING.md and the page on architecture name each crate. With
+--write the figures are written anew. The last line is 'N passed, M failed', one for each figure, row and name.
 """
 import re
 import sys
@@ -59,6 +60,17 @@ def pool(ports, m=8):
     return max(min(most, option('most_pool') - 3 * m - room(ports, m)), option('fewest_pool'))
 
 
+def full():
+    """The most ports with which there is room for as many components as a memory may have."""
+    return max(ports for ports in range(1, option('most_ports', 'partial_words/specs/Layout.antt') + 1)
+               if components(ports) == MOST_COMPONENTS)
+
+
+def claims(ports):
+    """Of how many updates one claims words when nobody scans: it claims ahead those of so many more (`ahead_for`)."""
+    return 1 + min(pool(ports) // 8 // ports, option('most_ahead', 'partial_words/specs/Layout.antt')) // 3
+
+
 def megabytes(ports, m=8):
     """What a memory of the usual sizes takes, in MB: the words of its epochs, ports and arenas."""
     rest, slots = 5 * m + 4 + LIST_WORDS + pool(ports, m) + room(ports, m), pool(ports, m) // 8 + ports
@@ -79,9 +91,10 @@ def figure(name):
     """The figure of this name, or None where there is none of it."""
     kind, _, part = name.partition('.')
     plain = {'tests': tests, 'edits': edits, 'wrong': lambda: edits(word='refused'), 'believed': believed.most,
-             'version': lambda: version.version(*version.CRATE), 'plans': lambda: len(list((TOP / 'plans').glob('*.plan')))}
+             'full': full, 'version': lambda: version.version(*version.CRATE),
+             'plans': lambda: len(list((TOP / 'plans').glob('*.plan')))}
     sized = {'components': lambda ports: f'{components(ports):,}', 'pool': lambda ports: f'{pool(ports):,}',
-             'megabytes': megabytes}
+             'megabytes': megabytes, 'claims': lambda ports: str(claims(ports))}
     if name == 'believed.long_lived':
         return str(believed.most_long_lived())
     if kind in sized and re.fullmatch(r'\d+(\.\d+)?', part):

@@ -1,4 +1,4 @@
-/* Calls each function of partial.h for memories that never wear out: refusals, null
+/* Calls each function of partial.h for long-lived memories: refusals, null
  * pointers, and threads over many epochs. Writes a line for each test that failed, and
  * then the counts. */
 #include "partial.h"
