@@ -9,8 +9,9 @@ tests/believed.py finds of the calls of a single opening, or `believed.long_live
 greatest number, `pool.N` the pool words of its arenas, `megabytes.N` or `megabytes.N.M` what it takes with 8 or M
 components, and `claims.N` of how many updates one claims, all at the usual sizes; `steps.SIZE.CALL` a number of the law
 `most_steps_in_numbers`; or `version`, that of the crate for Rust. The rows of README.md's table of speed are those of
-docs/benches.md, README.md has at most 150 lines, and CONTRIBUTING.md and the page on architecture name each crate. With
---write the figures are written anew. The last line is 'N passed, M failed', one for each figure, row and name.
+docs/benches.md, which begins with benches/head.md, and the number of measurements is that of the benches. README.md has
+at most 150 lines, and CONTRIBUTING.md and the page on architecture name each crate. With --write the figures are
+written anew. The last line is 'N passed, M failed', one for each figure, row and name.
 """
 import re
 import sys
@@ -149,6 +150,17 @@ def speeds():
             f'README.md: the row "{row[0]}" is not that of docs/benches.md' for row in told[2:]]
 
 
+def benches():
+    """What is said of how docs/benches.md begins, and of the number of measurements in one thread."""
+    names = 'docs/benches.md', 'benches/head.md', 'README.md'
+    page, head, readme = ((TOP / it).read_text(encoding='utf-8') for it in names)
+    yield None if page.startswith(head) else 'docs/benches.md does not begin with benches/head.md'
+    counted = [re.search(rf'const {name}: usize = (\d+);', (TOP / 'benches' / 'src' / file).read_text(encoding='utf-8'))
+               for name, file in (('REPETITIONS', 'main.rs'), ('ROUNDS_ALONE', 'benches.rs'))]
+    many = int(counted[0][1]) * int(counted[1][1])
+    yield None if f'minimum of {many} measurements' in readme else f'README.md: the benches make {many} measurements'
+
+
 def length():
     """What is said of the length of README.md."""
     lines = len((TOP / 'README.md').read_text(encoding='utf-8').splitlines())
@@ -167,7 +179,7 @@ def named():
 
 
 def main(words):
-    found = speeds() + [length()] + list(named())
+    found = speeds() + list(benches()) + [length()] + list(named())
     for page in links.kept('*.md'):
         found += figures(page, words == ['--write'])
     faults = [fault for fault in found if fault]
