@@ -133,8 +133,8 @@ pub fn clear_slots_count_as_set()
     ensures { ClearSlotsCountAsSet }
 {}
 
-/// The exchange of the current word, by an owner that has set its whole arena, opens the next epoch where it is won, and
-/// changes nothing where it is lost. Either way the memory is lawful.
+/// The exchange of the current word, by an owner that has set its whole arena, opens the next epoch when it is won, and
+/// changes nothing when it is lost. Either way the memory is lawful.
 pub fn publishes_stay_lawful()
     ensures { PublishesStayLawful }
 {}
