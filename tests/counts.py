@@ -7,11 +7,12 @@ in them, one for each function or law that has to refuse it; `plans`, the files 
 tests/believed.py finds of the calls of a single opening, or `believed.long_lived` of those of the long-lived memory;
 `components.N`, the most components of a long-lived memory with N ports, `full` the most ports with which that is the
 greatest number, `pool.N` the pool words of its arenas, `megabytes.N` or `megabytes.N.M` what it takes with 8 or M
-components, and `claims.N` of how many updates one claims, all at the usual sizes; `steps.SIZE.CALL` a number of the law
-`most_steps_in_numbers`; or `version`, that of the crate for Rust. The rows of README.md's table of speed are those of
-docs/benches.md, which begins with benches/head.md, and the number of measurements is that of the benches. README.md has
-at most 150 lines, and CONTRIBUTING.md and the page on architecture name each crate. With --write the figures are
-written anew. The last line is 'N passed, M failed', one for each figure, row and name.
+components, and `claims.N` of how many updates one claims, all at the usual sizes; `limit.NAME` the limit of that name
+in `specs/`; `steps.SIZE.CALL` a number of the law `most_steps_in_numbers`; or `version`, that of the crate for Rust. The
+rows of README.md's table of speed are those of docs/benches.md, which begins with benches/head.md, and the number of
+measurements is that of the benches. README.md has at most 150 lines, and CONTRIBUTING.md and the page on architecture
+name each crate. With --write the figures are written anew. The last line is 'N passed, M failed', one for each figure,
+row and name.
 """
 import re
 import sys
@@ -24,6 +25,8 @@ import version
 
 TOP = Path(__file__).resolve().parent.parent
 FIGURE = re.compile(r'(<!--=([\w.]+)-->)([^<]*)(<!--=-->)')
+# The definitions that name limits.
+LIMITS = 'partial_long_lived/specs/Options.antt', 'partial_words/specs/Layout.antt'
 # The list words of an arena, by default (`Options::default`).
 LIST_WORDS = 1_024
 # The most components of a memory.
@@ -40,14 +43,16 @@ def edits(crate='*', word='edit'):
                for path in (TOP / 'crates').glob(f'{crate}/edits.txt'))
 
 
-def option(name, file='partial_long_lived/specs/Options.antt'):
-    """A limit on the arenas of a long-lived memory."""
-    return int(re.search(rf'^{name} = (\d+)$', (TOP / 'crates' / file).read_text(encoding='utf-8'), re.M)[1])
+def option(name):
+    """A limit on the arenas of a long-lived memory, or on every memory; None where there is none of this name."""
+    texts = ((TOP / 'crates' / it).read_text(encoding='utf-8') for it in LIMITS)
+    found = re.search(rf'^{name} = (\d+)$', '\n'.join(texts), re.M)
+    return found and int(found[1])
 
 
 def room(ports, m):
     """The pool words of an arena for the greatest claim of each port (`claim_room`): a record, and the words ahead."""
-    return (4 + 2 * m + option('most_ahead', 'partial_words/specs/Layout.antt')) * ports
+    return (4 + 2 * m + option('most_ahead')) * ports
 
 
 def components(ports):
@@ -63,13 +68,12 @@ def pool(ports, m=8):
 
 def full():
     """The most ports with which there is room for as many components as a memory may have."""
-    return max(ports for ports in range(1, option('most_ports', 'partial_words/specs/Layout.antt') + 1)
-               if components(ports) == MOST_COMPONENTS)
+    return max(ports for ports in range(1, option('most_ports') + 1) if components(ports) == MOST_COMPONENTS)
 
 
 def claims(ports):
     """Of how many updates one claims words when nobody scans: it claims ahead those of so many more (`ahead_for`)."""
-    return 1 + min(pool(ports) // 8 // ports, option('most_ahead', 'partial_words/specs/Layout.antt')) // 3
+    return 1 + min(pool(ports) // 8 // ports, option('most_ahead')) // 3
 
 
 def megabytes(ports, m=8):
@@ -100,6 +104,8 @@ def figure(name):
         return str(believed.most_long_lived())
     if kind in sized and re.fullmatch(r'\d+(\.\d+)?', part):
         return sized[kind](*map(int, part.split('.')))
+    if kind == 'limit' and option(part) is not None:
+        return f'{option(part):,}'
     if kind == 'steps' and part.count('.') == 1:
         return steps(*part.split('.'))
     if kind == 'edits' and (TOP / 'crates' / part).is_dir() and part:
