@@ -56,7 +56,7 @@ taken_quiet i n = record { part = λ p. by_part p (n == 0); before = λ p. by_be
     by_passed p true = omega arith
     by_passed p false = omega arith
 
--- the unmarked word of a port names a site
+-- the word of a port without the entering bit names a site
 module _ (e : Plan) (words : List ℕ) (ports : ℕ → Port) (b : Beside) (w : LawfulEpochs e words ports b) (q : ℕ) (low : q < e.ports) where
   word_is : slice_index (control_words e words) (at_word q) ≡ slice_index words (at_word q)
   word_is = at_of (λ i. slice_index words i) 0 (control_size e) (at_word q) (omega (arith, low)) ∙ ap (λ i. slice_index words i) (omega arith)
