@@ -1,6 +1,6 @@
 #!/bin/sh
 # count.sh: counts the instructions of one call of a port alone, with callgrind: of an update of a single opening and of the
-# same algorithm in plain Rust, and of each call of an opening and of a memory that never wears out, with its changes of
+# same algorithm in plain Rust, and of each call of an opening and of a long-lived memory, with its changes of
 # epoch, by indices and by keys; over the static library, and over its bitcode. Of updates and reads it counts the locked
 # instructions too: each is a step that a processor makes alone. It wants rt, cargo, python3, valgrind, objdump and nm.
 set -eu
@@ -24,7 +24,7 @@ locked() {
     many=$(benches/locked.py "$2" "$3" 60000)
     echo "locked instructions, $1: $(((many - few + 25000) / 50000))"
 }
-# rows NAME PROGRAM: each call of an opening, and of a memory that never wears out.
+# rows NAME PROGRAM: each call of an opening, and of a long-lived memory.
 rows() {
     row "update of an opening, $1" "$2" proved
     row "read of an opening, $1" "$2" opening_read

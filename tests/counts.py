@@ -5,11 +5,14 @@ A figure is between <!--=NAME--> and <!--=-->. NAME is `tests`, the functions of
 the edits that the prover has to refuse, and `edits.CRATE`, those of a crate; `wrong`, the wrong bodies and definitions
 in them, one for each function or law that has to refuse it; `plans`, the files plans/*.plan; `believed`, what
 tests/believed.py finds of the calls of a single opening, or `believed.long_lived` of those of the long-lived memory;
-`components.N`, the most components of a long-lived memory with N ports, `pool.N` the pool words of its arenas, and
-`megabytes.N` or `megabytes.N.M` what it takes with 8 or M components, all at the usual sizes; `steps.SIZE.CALL` a number
-of the law `most_steps_in_numbers`; or `version`, that of the crate for Rust. The rows of README.md's table of speed are those of docs/benches.md, README.md has at most 150 lines,
-and CONTRIBUTING.md and the page on architecture name each crate. With --write the figures are written anew. The last
-line is 'N passed, M failed', one for each figure, row and name.
+`components.N`, the most components of a long-lived memory with N ports, `full` the most ports with which that is the
+greatest number, `pool.N` the pool words of its arenas, `megabytes.N` or `megabytes.N.M` what it takes with 8 or M
+components, and `claims.N` of how many updates one claims, all at the usual sizes; `limit.NAME` the limit of that name
+in `specs/`; `steps.SIZE.CALL` a number of the law `most_steps_in_numbers`; or `version`, that of the crate for Rust. The
+rows of README.md's table of speed are those of docs/benches.md, which begins with benches/head.md, and the number of
+measurements is that of the benches. README.md has at most 150 lines, and CONTRIBUTING.md and the page on architecture
+name each crate. With --write the figures are written anew. The last line is 'N passed, M failed', one for each figure,
+row and name.
 """
 import re
 import sys
@@ -22,6 +25,8 @@ import version
 
 TOP = Path(__file__).resolve().parent.parent
 FIGURE = re.compile(r'(<!--=([\w.]+)-->)([^<]*)(<!--=-->)')
+# The definitions that name limits.
+LIMITS = 'partial_long_lived/specs/Options.antt', 'partial_words/specs/Layout.antt'
 # The list words of an arena, by default (`Options::default`).
 LIST_WORDS = 1_024
 # The most components of a memory.
@@ -38,14 +43,16 @@ def edits(crate='*', word='edit'):
                for path in (TOP / 'crates').glob(f'{crate}/edits.txt'))
 
 
-def option(name, file='partial_long_lived/specs/Options.antt'):
-    """A limit on the arenas of a long-lived memory."""
-    return int(re.search(rf'^{name} = (\d+)$', (TOP / 'crates' / file).read_text(encoding='utf-8'), re.M)[1])
+def option(name):
+    """A limit on the arenas of a long-lived memory, or on every memory; None where there is none of this name."""
+    texts = ((TOP / 'crates' / it).read_text(encoding='utf-8') for it in LIMITS)
+    found = re.search(rf'^{name} = (\d+)$', '\n'.join(texts), re.M)
+    return found and int(found[1])
 
 
 def room(ports, m):
     """The pool words of an arena for the greatest claim of each port (`claim_room`): a record, and the words ahead."""
-    return (4 + 2 * m + option('most_ahead', 'partial_words/specs/Layout.antt')) * ports
+    return (4 + 2 * m + option('most_ahead')) * ports
 
 
 def components(ports):
@@ -57,6 +64,16 @@ def pool(ports, m=8):
     """The usual pool of an arena (`usual_pool`)."""
     most = max(min(option('pool_of_port') * ports, option('pool_of_all') // ports), option('pool_of_component') * m)
     return max(min(most, option('most_pool') - 3 * m - room(ports, m)), option('fewest_pool'))
+
+
+def full():
+    """The most ports with which there is room for as many components as a memory may have."""
+    return max(ports for ports in range(1, option('most_ports') + 1) if components(ports) == MOST_COMPONENTS)
+
+
+def claims(ports):
+    """Of how many updates one claims words when nobody scans: it claims ahead those of so many more (`ahead_for`)."""
+    return 1 + min(pool(ports) // 8 // ports, option('most_ahead')) // 3
 
 
 def megabytes(ports, m=8):
@@ -79,13 +96,16 @@ def figure(name):
     """The figure of this name, or None where there is none of it."""
     kind, _, part = name.partition('.')
     plain = {'tests': tests, 'edits': edits, 'wrong': lambda: edits(word='refused'), 'believed': believed.most,
-             'version': lambda: version.version(*version.CRATE), 'plans': lambda: len(list((TOP / 'plans').glob('*.plan')))}
+             'full': full, 'version': lambda: version.version(*version.CRATE),
+             'plans': lambda: len(list((TOP / 'plans').glob('*.plan')))}
     sized = {'components': lambda ports: f'{components(ports):,}', 'pool': lambda ports: f'{pool(ports):,}',
-             'megabytes': megabytes}
+             'megabytes': megabytes, 'claims': lambda ports: str(claims(ports))}
     if name == 'believed.long_lived':
         return str(believed.most_long_lived())
     if kind in sized and re.fullmatch(r'\d+(\.\d+)?', part):
         return sized[kind](*map(int, part.split('.')))
+    if kind == 'limit' and option(part) is not None:
+        return f'{option(part):,}'
     if kind == 'steps' and part.count('.') == 1:
         return steps(*part.split('.'))
     if kind == 'edits' and (TOP / 'crates' / part).is_dir() and part:
@@ -136,6 +156,17 @@ def speeds():
             f'README.md: the row "{row[0]}" is not that of docs/benches.md' for row in told[2:]]
 
 
+def benches():
+    """What is said of how docs/benches.md begins, and of the number of measurements in one thread."""
+    names = 'docs/benches.md', 'benches/head.md', 'README.md'
+    page, head, readme = ((TOP / it).read_text(encoding='utf-8') for it in names)
+    yield None if page.startswith(head) else 'docs/benches.md does not begin with benches/head.md'
+    counted = [re.search(rf'const {name}: usize = (\d+);', (TOP / 'benches' / 'src' / file).read_text(encoding='utf-8'))
+               for name, file in (('REPETITIONS', 'main.rs'), ('ROUNDS_ALONE', 'benches.rs'))]
+    many = int(counted[0][1]) * int(counted[1][1])
+    yield None if f'minimum of {many} measurements' in readme else f'README.md: the benches make {many} measurements'
+
+
 def length():
     """What is said of the length of README.md."""
     lines = len((TOP / 'README.md').read_text(encoding='utf-8').splitlines())
@@ -154,7 +185,7 @@ def named():
 
 
 def main(words):
-    found = speeds() + [length()] + list(named())
+    found = speeds() + list(benches()) + [length()] + list(named())
     for page in links.kept('*.md'):
         found += figures(page, words == ['--write'])
     faults = [fault for fault in found if fault]

@@ -67,12 +67,12 @@ def cases():
             return [it for it in covered.uncovered(crate, without) if it]
 
         found = missing(CODE + METHOD + LAW)
-        yield 'each without an edit is told', len(found) == len(MISSING) and all(
+        yield 'each without an edit is named', len(found) == len(MISSING) and all(
             any(f' {name}' in it for it in found) for name in MISSING)
         yield 'those with one are not', len(missing('')) == len(MISSING) + 3
         yield 'one that can have none needs none', len(missing(CODE + METHOD + LAW, {'passed': ''})) == len(MISSING) - 1
         yield 'and has none', any('seen has an edit' in it for it in missing(CODE, {'seen': ''}))
-        yield 'one that is not there is told', any('no public function kept' in it for it in missing(CODE, {'kept': ''}))
+        yield 'one that is not there is named', any('no public function kept' in it for it in missing(CODE, {'kept': ''}))
     for crate, names in covered.WITHOUT.items():
         yield f'those of {crate} have a reason', all(reason for reason in names.values())
 

@@ -37,7 +37,7 @@ WRONG, RIGHT = 'wrong', 'right'
 ERROR = re.compile(r'^\./((?:specs|proofs)/\S+?\.antt)\S*: error: (.*(?:\n  .*)*)', re.M)
 # An error that only says that an earlier one stands in a declaration's way.
 BEHIND = re.compile(r'\d+ declarations? that depends? on ')
-# An error of meaning is one of a declaration, which it names, and tells of no name that is missing; nor has it no end.
+# An error of meaning names a declaration. It says neither that a name is missing nor that the prover came to no verdict.
 OF_MEANING = re.compile(r'`[^`]+`: ')
 LACKING = re.compile(r'is not in scope|has no field|has no `|is no name')
 SPENT = re.compile(r'r[ua]n out of|could not tell|stopped at the step limit')

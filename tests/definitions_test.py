@@ -111,7 +111,7 @@ BEHIND = '''\
 '''
 NOT_PROVED = 'fn low::wrong_0::near: not proved\n'
 PROVED = 'fn low::right_0::near: proved\n'
-# What is said in place of the proof that the change breaks, and the reason that is told.
+# What is said in place of the proof that the change breaks, and the reason that is given.
 NOT_REFUSED = {
     'a proof of which nothing is refused': ('', 'no proof of it is refused'),
     'a module that is not there': (

@@ -15,7 +15,7 @@ of what the definition reaches, as tests/definitions.py says. What follows is of
 
 Each edit is judged by itself: its goal has to stay open, whatever is tried at it. Tried are the answer that is written
 for the goal, and the calls that the prover makes first at a goal without an answer. Both stand in the file of answers of
-the turned function, with nothing else, and what is said of each tells whether it fits. One of which nothing is said
+the turned function, with nothing else, and what is said of each shows whether it fits. One of which nothing is said
 proves the goal, and so does one that isn't read at all: neither refuses. A check that ends without a verdict, or that is
 stopped since it took too much time of a processor, refuses nothing.
 
@@ -24,7 +24,7 @@ body. It isn't where values are found that break it. Any other goal is tried onc
 the turned function: without its written answer, and with holes in place of the others. (In the crates of LEFT that
 isn't done yet where an answer is written.) So an equal body is not refused where values break nothing and the search
 proves the goal. Where the search proves it of no body, not even of the right one, an equal body of another form can't
-be told from a wrong one: such an edit is for its readers to judge.
+be distinguished from a wrong one: such an edit is for its readers to judge.
 
 Much of a check's time passes before its first proof, so a crate's edits are tried together, in rounds of at most ROUND
 functions, in each of which no function is turned twice. The bodies of functions that a round doesn't turn stand empty in it,
@@ -476,7 +476,7 @@ def without_idle_branches(text):
 @dataclass
 class Told:
     """What a check says of one function: what does not fit, and why; what the prover's own search did not prove; and
-    what else tells nothing of its contract."""
+    what else says nothing of its contract."""
 
     misfits: dict[str, str] = field(default_factory=dict)
     unproved: list[str] = field(default_factory=list)

@@ -51,7 +51,7 @@ GOALS = {
     'what a called function requires': 'make-requires-2-clause-due',
 }
 NO_GOALS = ('overflow_add-result', 'overflow_cast-stages', 'index-requires', 'unwrap-requires', 'loop-at-smaller')
-# What is said of one try in place of what is said of it where it doesn't fit, and the reason that is told.
+# What is said of one try in place of what is said of it where it doesn't fit, and the reason that is given.
 NOT_REFUSED = {
     'a try of which nothing is said': ('', 'its goal is proved, or is none: returns'),
     'an answer that names a field that is gone': (
@@ -72,7 +72,7 @@ NOT_REFUSED = {
     'a fault of an invariant': (
         NOT_FOUND.format(goal='returns') + './proofs/a/f/Invariants.antt:4:20: error: `x` is not in scope\n',
         'a fault of a proof file'),
-    'a function of which the check could not tell': (
+    'a function of which the check could not say': (
         NOT_FOUND.format(goal='returns') + 'fn low::a::f: could not tell\n', 'no verdict'),
 }
 
@@ -188,7 +188,7 @@ def cases():
         yield f'a check that ends with {status} refuses nothing', f'low/turned: the check' in wrong and (
             f'ended with status {status}' in wrong)
     yield 'one that is killed says what its bound is', 's of a processor' in '\n'.join(faults('', -9))
-    yield 'what such a check said last is told', 'no such library' in '\n'.join(faults('no such library', 2))
+    yield 'what such a check said last is shown', 'no such library' in '\n'.join(faults('no such library', 2))
     other = MISFIT.format(goal='returns').replace('/a/f/', '/a/g/')
     yield 'an answer that does not fit, of a function that no edit turns, is a fault', any(
         'low: a::g has faults' in it for it in faults(said_of('returns') + other))

@@ -7,8 +7,8 @@ history and the places of the calls in it), and the search for such a history. W
 judged by `is_lawful` before anything is called lawful.
 
 The status is 0 for a lawful report, 1 for an unlawful one, with a line saying why, and 2 where the plan
-or the report can't be read. Hundreds of calls take a second or so where the values of a component tell its
-updates apart. Where they don't, large scans by many ports may take very long: then it is the search through
+or the report can't be read. Hundreds of calls take a second or so where each update of a component has
+a value of its own. Where they don't, large scans by many ports may take very long: then it is the search through
 the orders of the updates that decides.
 """
 import itertools

@@ -364,7 +364,7 @@ shows "pipeline: eight stages" 8 2000
 shows "pipeline: 63 stages" 63 50 --looks 100
 shows "pipeline: many epochs" 2 100000 --looks 50
 
-# Long work is shown on a terminal, and nowhere else, and the pipeline keeps to the terminal's size.
+# Long work is shown on a terminal, and nowhere else, and what the pipeline draws fits the terminal.
 count "$top/tests/terminal.py" "$partial" "$program"
 program=$partial
 

@@ -16,7 +16,7 @@ SECONDS = 60
 
 
 def call_text(source, components, base, value):
-    """A random call. Each update has a value of its own, so that the values tell the updates apart; a
+    """A random call. Each update has a value of its own, so that a value names its update; a
     conditional one expects its component's initial stamp, the first of which is `base`."""
     component = source.randrange(components)
     kind = source.choice(('update', 'update', 'scan', 'scan', 'read', 'updateif'))

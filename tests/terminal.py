@@ -1,9 +1,10 @@
 #!/usr/bin/env python3
-"""Sees what the program says of long work: on the standard error of a terminal, and nowhere else; and that the pipeline
-keeps to the size of its terminal.
+"""Sees what the program says of long work: on the standard error of a terminal, and nowhere else; and that what the
+pipeline draws fits its terminal.
 
-Its words are the program and the pipeline. The program is given a plan on standard input, at once or after 1.3 seconds: the time until the plan is
-there doesn't count. The work on the long plans takes more than a second. The last line is 'N passed, M failed'.
+Its words are the program and the pipeline. The program is given a plan on standard input, at once or after 1.3 seconds:
+the time until the plan is there doesn't count. The work on the long plans takes more than a second. The last line is
+'N passed, M failed'.
 """
 import os
 import pty

@@ -6,8 +6,8 @@ A twin is a wrong algorithm that does what its definitions say. So the turned cr
 It is the proof of the law in a crate above that has to fail over it. A twin is a file of lines: `refused: CRATE FILE`
 names the crate above and its file of proofs that has to be refused; `remove: PATH` a file or folder of the turned crate
 that goes; `file:`, `old:` and `new:` are those of an edit (tests/edits.py), but `\\n` in a text is the end of a line.
-`above: PATH` is a file of the crate above: its proof is told what the turned definition has, so that what it then lacks
-is a fact and no form.
+`above: PATH` is a file of the crate above that is turned too, to fit the turned definition: what its proof lacks then is
+a fact, and not a form.
 
 A twin is refused when the turned crate is proved, the check of the crate above ends with 1, and what it refuses there
 is a declaration of that file, by its meaning (tests/definitions.py), and nothing of another file but what depends on

@@ -17,7 +17,7 @@ LACKING_A_FACT = '''\
 '''
 LACKING_A_NAME = './proofs/Scans.antt:28:44: error: module `Rattle.low.proofs` has no `Traces` that can be named from here\n'
 ELSEWHERE = './proofs/Other.antt:3:1: error: `other`: expected type `a ≡ true`, but this has type `b ≡ true`\n'
-# What is said in place of the lacking fact, and the reason that is told.
+# What is said in place of the lacking fact, and the reason that is given.
 NOT_REFUSED = {
     'a proof that lacks a name': (LACKING_A_NAME, 'names what is gone, or is none'),
     'a field that is gone': (

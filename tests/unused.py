@@ -32,7 +32,7 @@ BY_CODE = re.compile(r'\bcrate::proofs::(\w+)::([^\s,()\[\]]+)')
 
 @dataclass
 class Definition:
-    """A definition: its names, the numbers of its first line, with the comments above it, of its head and behind its last
+    """A definition: its names, the numbers of its first line, with the comments above it, of its head and after its last
     one, the blocks around it, and the names in it, each with the one that it is taken from by a dot."""
 
     names: list[str]
@@ -45,7 +45,7 @@ class Definition:
 
 @dataclass
 class Block:
-    """A block of definitions: the numbers of its first line and of that behind its head, how deep what it holds stands, and
+    """A block of definitions: the numbers of its first line and of that after its head, how deep what it holds stands, and
     the names in its head."""
 
     first: int

@@ -1,7 +1,8 @@
 //! A number of calls by one port, for a tool that counts instructions: updates of a single opening (`proved`) or of the
-//! same algorithm in plain Rust (`plain`); or updates, reads or scans of 4 or 16 components of the memory that never wears
-//! out (`update`, `read`, `scan`, `scan_of_16`), or the first three by keys (`set`, `get`, `snapshot`), or of a single opening
-//! (`opening_read`, `opening_scan`). Its words are one of these and the number of calls; an opening has room for 1,000,000 updates and 65,536 scans.
+//! same algorithm in plain Rust (`plain`); or updates, reads or scans of 4 or 16 components of the long-lived memory
+//! (`update`, `read`, `scan`, `scan_of_16`), or the first three by keys (`set`, `get`, `snapshot`), or of a single
+//! opening (`opening_read`, `opening_scan`). Its words are one of these and the number of calls; an opening has room for
+//! 1,000,000 updates and 65,536 scans.
 
 #[allow(dead_code)]
 #[path = "../src/answers.rs"]

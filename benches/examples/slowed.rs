@@ -1,6 +1,6 @@
 //! What calls of one thread take while the processor is slower than at other times, as that of a virtual machine may be. A
-//! round times a loop over numbers that don't wait for each other, a scan of 4 components and a read of the memory that
-//! never wears out, and a scan of 4 of a list behind a lock, and writes a line of a table. The loop shows how fast the
+//! round times a loop over numbers that don't wait for each other, a scan of 4 components and a read of the long-lived
+//! memory, and a scan of 4 of a list behind a lock, and writes a line of a table. The loop shows how fast the
 //! processor was. Its word is the number of rounds.
 
 use partial_door::Memory;

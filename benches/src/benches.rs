@@ -163,7 +163,7 @@ pub fn wait_for(ready: &AtomicUsize, threads: usize) {
     }
 }
 
-// Updates without end of a memory that never wears out, with all their changes of epoch.
+// Updates without end of a long-lived memory, with all their changes of epoch.
 fn many(name: &str) -> Sample {
     if name != "memory" {
         return Sample::none();
@@ -171,7 +171,7 @@ fn many(name: &str) -> Sample {
     timed(name, 1, MANY_PARTS, rest, update)
 }
 
-// Calls of the memory that never wears out by keys.
+// Calls of the long-lived memory by keys.
 fn by_keys(name: &str, parts: u32, work: Work) -> Sample {
     if name != "memory" {
         return Sample::none();

@@ -57,7 +57,7 @@ macro_rules! face_of {
     };
 }
 
-// The proved memory that never wears out, a proved single opening, and its algorithm with nothing proved.
+// The proved long-lived memory, a proved single opening, and its algorithm with nothing proved.
 face_of!(Port);
 face_of!(opening::Port);
 face_of!(raw::Port);
@@ -65,7 +65,7 @@ face_of!(raw::Port);
 /// The keys of four components.
 type Four = (Key<u64>, Key<u64>, Key<u64>, Key<u64>);
 
-/// A port of the memory that never wears out, called by keys. A program has the keys of a snapshot at hand, so here are
+/// A port of the long-lived memory, called by keys. A program has the keys of a snapshot at hand, so here are
 /// those of each component and the three after it.
 struct Keyed {
     port: Port,

@@ -160,7 +160,7 @@ static int reopen_without(long growth)
     return code == 0;
 }
 
-/* The same for memories that never wear out. */
+/* The same for long-lived memories. */
 
 static const partial_arena arena = {8, 64};
 

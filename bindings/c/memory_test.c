@@ -1,4 +1,4 @@
-/* Calls each function of partial.h for memories that never wear out: refusals, null
+/* Calls each function of partial.h for long-lived memories: refusals, null
  * pointers, and threads over many epochs. Writes a line for each test that failed, and
  * then the counts. */
 #include "partial.h"
@@ -182,7 +182,7 @@ static void test_refused_calls(void)
     check(partial_port_meet(&none, &nobody) == PARTIAL_HOLDS_NONE, "no port meets none");
     check(partial_port_read(&none, 0, &read) == PARTIAL_HOLDS_NONE, "a read at no port is refused");
     check(partial_port_scan(&none, which, 1, into, 1, &scanned) == PARTIAL_HOLDS_NONE, "a scan at no port is refused");
-    check(partial_port_scan_stamped(&none, which, 1, into, 1, stamps, 1, &scanned) == PARTIAL_HOLDS_NONE && scanned.collects == 5, "nor does one tell stamps there");
+    check(partial_port_scan_stamped(&none, which, 1, into, 1, stamps, 1, &scanned) == PARTIAL_HOLDS_NONE && scanned.collects == 5, "nor does one return stamps there");
     check(partial_port_number(&none, &number) == PARTIAL_HOLDS_NONE && number == 5, "no port has no number");
     check(partial_memory_take_port(&nothing, &none) == PARTIAL_HOLDS_NONE, "no memory has no port");
     check(partial_memory_close(&nothing, into, 2) == PARTIAL_HOLDS_NONE, "an empty handle isn't closed");

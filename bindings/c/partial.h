@@ -4,8 +4,8 @@
  * any few of them as they stood together at one moment. Each call of a port ends within a
  * fixed number of atomic steps, whatever other threads do.
  *
- * A `partial_memory` never wears out, and its ports are `partial_port`s. A single opening
- * (`partial_handle`, with functions named `partial_opening_`) wears out:
+ * A `partial_memory` is long-lived: it never wears out. Its ports are `partial_port`s. A
+ * single opening (`partial_handle`, with functions named `partial_opening_`) wears out:
  * `docs/using/choosing.md` says what a program does then.
  *
  * What is proved, and what isn't
@@ -74,7 +74,7 @@ typedef struct partial_handle {
     void *held; /* only the library reads and writes it */
 } partial_handle;
 
-/* A handle of a memory that never wears out. */
+/* A handle of a long-lived memory. */
 typedef struct partial_memory {
     void *held; /* only the library reads and writes it */
 } partial_memory;
@@ -257,7 +257,7 @@ static inline uint64_t partial_next_number(void)
 }
 
 /*
- * Makes a memory that never wears out, in the empty handle `memory`. It has a component
+ * Makes a long-lived memory, in the empty handle `memory`. It has a component
  * for each value in `initial`, and holds `ports` ports, 1 to 255. `arena` says how large
  * its arenas are.
  *

@@ -67,7 +67,7 @@ impl Builder {
     /// components, and `3 m` more, are at most 4,194,304 together.
     ///
     /// 0 is the number that a memory has by default: 16,384 for each port, but no more than 131,072 divided by the number
-    /// of ports, or 16 for each component if that is more; no more than there is room for, and always 8,192 at least.
+    /// of ports; or 16 for each component, if that is more. It is no more than there is room for, and never below 8,192.
     ///
     /// ```
     /// use partial_door::{Memory, OpenError};

@@ -1,4 +1,4 @@
-//! Memories that never wear out.
+//! Long-lived memories, which never wear out.
 
 use crate::counted::Counted;
 use crate::port::Port;

@@ -55,7 +55,7 @@ enum Held {
     Closed(Vec<u64>),
 }
 
-/// A port's number and marks. In a memory that never wears out it also has the epoch of its last claim, and of the words of
+/// A port's number and marks. In a long-lived memory it also has the epoch of its last claim, and of the words of
 /// that claim those that it keeps for later records.
 struct Seat {
     number: u32,
@@ -73,7 +73,7 @@ struct Table {
 
 #[derive(Clone, Copy)]
 enum Kind {
-    /// A memory that never wears out, whose epochs have so many pool words, and whose updates claim so many ahead.
+    /// A long-lived memory, whose epochs have so many pool words, and whose updates claim so many ahead.
     Lasting { pool: u64, ahead: u64 },
     /// A single opening, with so many pool words and slots.
     Opening { pool: u64, slots: u32 },
@@ -524,7 +524,7 @@ pub unsafe fn partial_door_port_number(port: &mut Handle, answer: &mut u32) -> u
     number(port.port().map(|(_, seat)| *answer = seat.number))
 }
 
-// The calls of a memory that never wears out are those of an opening. A handle of the other kind never comes here: the
+// The calls of a long-lived memory are those of an opening. A handle of the other kind never comes here: the
 // crate has types of its own for each.
 pub use partial_door_opening_give_port as partial_door_memory_give_port;
 pub use partial_door_opening_meet as partial_door_port_meet;

@@ -1,4 +1,4 @@
-//! The sizes that the library gives a memory that never wears out. It says none of them; these are its formulas
+//! The sizes that the library gives a long-lived memory. It says none of them; these are its formulas
 //! (`crates/partial_long_lived/src/options.rt`), and `tests/sizes.rs` and `tests/bytes.rs` compare them with what it does.
 
 use crate::parts::Arena;

@@ -1,4 +1,4 @@
-//! Memories that never wear out: their ports in threads of their own, and what is refused.
+//! Long-lived memories: their ports in threads of their own, and what is refused.
 
 use partial_door::{
     Builder, CloseError, Engine, Memory, OpenError, Port, PortError, Refused, Stamp, TwoMemories, Updated, UpdatedIf,

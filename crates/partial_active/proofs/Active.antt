@@ -38,14 +38,14 @@ module _ (p : SetPair) (first : List ℕ) (past : Past) (now : List ℕ) (orderl
   told_at (Publish at) step e goes knows = tt
   told_at Done step e goes knows = absurd cc
 
--- the machine and its buffers behind these moments
+-- the machine and its buffers after these moments
 pub record Reached (s : Layout) (first : List ℕ) (past : Past) (q : SetPair) : Type 0 where
   pub sizes : q.0.sizes ≡ s
   pub together : SetGoesTogether q
   pub knows : Knows s first past q
   pub first_in : AtSome (λ w. w ≡ first) past
 
--- what one step more comes to
+-- what one step more leads to
 abbrev pub StepsOn : Layout → List ℕ → Past → List ℕ → SetPair → Step → Type 0
 StepsOn s first past now p step = IsPossibleInSet p (answer_of now step) × Reached s first (now ∷ past) (advance_set p (answer_of now step)) ×
     (set_left (advance_set p (answer_of now step)).0 < set_left p.0)
@@ -73,7 +73,7 @@ first_step : (s : Layout) → IsLayout s → (spent : Bool) (f : Buffers) → Ar
     StepsOn s first [] first (fresh_set s spent, f) step
 first_step s layout spent f sizes first orderly step e = step_on s (fresh_set s spent, f) refl layout first [] first orderly tt (inl refl) (record { sizes = sizes; stage = tt }) tt step e
 
--- the moments of a list put behind, one after another
+-- the moments of a list added, one after another
 unfoldable pub onto : Past → Past → Past
 onto [] past = past
 onto (w ∷ ws) past = onto ws (w ∷ past)
@@ -113,7 +113,7 @@ run_split s (w ∷ ws) past now orderly =
     ((orderly.0, orderly.1, rest.0), rest.1, rest.2)
 
 module _ (s : Layout) (spent : Bool) (f : Buffers) (layout : IsLayout s) (sizes : AreFoundFor s f) where
-  -- a run from a fresh machine, wherever it has come to
+  -- a run from a fresh machine, wherever it is
   from_fresh : (first : List ℕ) (ms : Past) (q : SetPair) → IsPairwiseOrderly s [] (first ∷ ms) → LeadsTo (fresh_set s spent, f) (first ∷ ms) q →
       Reached s first (onto ms (first ∷ [])) q × (length (first ∷ ms) + set_left q.0 ≤ set_left (fresh_set s spent))
   from_fresh first ms q orderly leads =

@@ -31,7 +31,7 @@ walk_begins p x list below empty = record {
   behind = λ k le lt. omega arith;
 }
 
--- a slot that is left behind
+-- the walk goes on after a slot in no interval
 pub walk_next : (p : SetPair) (slot : ℕ) → IsAtSlot p slot → IsWalking p (slot + 1)
 walk_next p slot here = record {
   list = here.walking.list;
@@ -45,7 +45,7 @@ walk_next p slot here = record {
   behind = λ k le lt. omega (arith, here.outside k le lt);
 }
 
--- a slot that is noted lies behind the next list
+-- a slot that is noted lies after the next list
 pub slot_behind : (s : Layout) (p : SetPair) (slot : ℕ) → IsLayout s → p.0.sizes ≡ s → IsAtSlot p slot → LiesBehind p.1.next slot slot
 slot_behind s p slot layout same here =
     let slots : p.0.sizes.slots ≡ s.slots = ap (λ (l : Layout). l.slots) same in

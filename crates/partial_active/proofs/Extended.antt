@@ -1,4 +1,4 @@
--- The list that a walk makes: it stays a normal form, and gains the numbers that were put behind it.
+-- The list that a walk makes: it stays a normal form, and gains the numbers that were put after it.
 use Rattle.partial_active.proofs.Common.{ℕ, zero, suc, ◌≡◌, ◌+◌, ◌-◌, ◌*◌, ◌<◌, ◌≤◌, ◌⊎◌, true, false, ◌==◌, nat_lt, [], ◌∷◌, ◌++◌, length, slice_set, inl, inr, refl, sym, ap, arith, cases_eq, cases_lt, cond_both, and_parts, and_cases, ltb-true, ltb-false, eqb-true, eqb-false, length_push, get_or_append_left, get_or_push, length-set, Ranges, lowest, highest, Holds, IsNormal, GoesOn, extended_list, touches, last_place, LiesBehind, EndsBelow}
 use Rattle.partial_intervals.proofs.Edits.{normal_set, highest_here, highest_other, lowest_here, lowest_other}
 

@@ -2,7 +2,7 @@
 -- the announcements that it found.
 use Rattle.partial_active.proofs.{Common.{ℕ, ◌≡◌, ◌≤◌, ◌⊎◌, true, ◌||◌, nat_eq, ◌==◌, Some, None, List, [], ◌∷◌, Bool, inl, inr, refl, sym, ap, ◌∙◌, arith, flat_map, list_any, false≢true, or_left, or_right, eqb-true, eq-eqb, get_or_default, list_any-append, Any-from_list_any, Load, Layout, IsLayout, list_head, Buffers, AreFoundFor, has_index, with_index, SetPair, fresh_set, set_step_due, slot_at, AtSome, AtSomeStep, answered_from, own_moments, Announcement, FindsAnnouncement, Names, FindsActiveSet, GetSetsFind, with_all}, Orders.{Past, IsPairwiseOrderly, LeadsTo, own_leads, moments_of}, Indices.with_index_has, Knowledge.finished, Known.facts_of_moments, Active.{onto, onto_each, reached_from}, Named.{Named, named_behind}}
 
--- an index of a list with others put behind it is in one of the two
+-- an index of a list with others put after it is in one of the two
 with_all_has : (xs ys : List ℕ) (j : ℕ) → has_index (with_all xs ys) j ≡ true → (has_index xs j ≡ true) ⊎ (has_index ys j ≡ true)
 with_all_has xs [] j has = inl has
 with_all_has xs (y ∷ ys) j has = elim (with_all_has (with_index xs y) ys j has) [

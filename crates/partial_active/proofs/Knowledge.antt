@@ -11,7 +11,7 @@ pub record AreFacts (s : Layout) (words : List ℕ) (t : Facts) : Type 0 where
   pub read : (indices : List ℕ) (slot at : ℕ) (named : List ℕ) → slot < s.slots → t.announces slot at named → HasEach indices named → t.complete indices slot
   pub kept : (indices : List ℕ) (x slot : ℕ) → t.complete indices slot → t.complete (with_index indices x) slot
 
--- What an answer tells at a stage: at the list head and at a slot a fact, and of a block its word; at the slot counter that
+-- What an answer shows at a stage: at the list head and at a slot a fact, and of a block its word; at the slot counter that
 -- the list read ends below it, and that nothing is missing from there on.
 abbrev pub tells_at : List ℕ → Facts → Stage → SetPair → ℕ → Type 0
 tells_at words t Head p x = (x ≡ 0) ⊎ ((list : Ranges) × t.lists x list)
@@ -54,7 +54,7 @@ module _ (s : Layout) (words : List ℕ) (t : Facts) (w : AreFacts s words t) wh
       (λ e. k)
       (λ e. known_after_walk p slot (ltb-false slot p.0.end e) k)
 
-  -- the walk comes to a slot, and may pass an interval
+  -- the walk reaches a slot, and may pass an interval
   known_come_to : (p : SetPair) (slot : ℕ) → IsWalking p slot → walks t p slot → KnowsBy t (come_to p slot)
   known_come_to p slot walking k = cond_both (begins_at p.1.read p.0.passed slot) (at_slot (pass_interval p) (highest p.1.read p.0.passed + 1)) (at_slot p slot) (KnowsBy t)
       (λ e.
@@ -73,7 +73,7 @@ module _ (s : Layout) (words : List ℕ) (t : Facts) (w : AreFacts s words t) wh
       }))
       (λ e. known_at_slot p slot k)
 
-  -- the walk goes on behind a slot that is done
+  -- the walk goes on after a slot that is done
   walks_next : (p : SetPair) (slot : ℕ) → walks t p slot → t.complete p.1.indices slot → walks t p (slot + 1)
   walks_next p slot k here = record {
     listed = k.listed;

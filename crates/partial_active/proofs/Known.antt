@@ -1,7 +1,7 @@
--- What the moments behind a getSet that is answered from orderly words tell it.
+-- What a getSet that is answered from orderly words knows by the moments before.
 use Rattle.partial_active.proofs.{Common.{ℕ, ◌≡◌, ◌<◌, ◌≤◌, true, List, [], ◌∷◌, slice_index, inl, inr, sym, subst, ◌∙◌, arith, Ranges, Layout, StandsAt, announcement_block, list_block, has_index, SetPair, Facts, HasEach, HasReadSo, walks, has_found, knows_by, KnowsBy, Stage, Head, ListLen, ListLow, ListHigh, Counter, Slot, Len, Index, Claim, Write, Publish, Done, slot_at, head_at, IsAnnouncement, IsVacatedList, OnEach, AtSome}, Orders.{Past, ComesFrom}, Indices.{with_index_keeps, same_named}, Knowledge.AreFacts}
 
--- what some moment tells beside what each does
+-- what some moment shows beside what each does
 pub some_with : (P Q : List ℕ → Type 0) (G : Type 0) (past : Past) → ((w : List ℕ) → P w → Q w → G) → AtSome P past → OnEach Q past → G
 some_with P Q G [] gives some each = absurd some
 some_with P Q G (w ∷ ws) gives (inl here) each = gives w here each.0
@@ -136,6 +136,6 @@ facts_of_moments_hold s first past now comes first_in = record {
   kept = λ indices x slot complete named within there each k lt. with_index_keeps indices x (slice_index named k) (complete named within there each k lt);
 }
 
--- what a getSet knows by the moments behind it
+-- what a getSet knows by the moments before
 abbrev pub Knows : Layout → List ℕ → Past → SetPair → Type 0
 Knows s first past p = KnowsBy (facts_of_moments s first past) p

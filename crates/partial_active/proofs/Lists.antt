@@ -31,7 +31,7 @@ record HasReadFirst (s : Layout) (first : List ℕ) (p : SetPair) : Type 0 where
   list : IsListOf s first p.1.read
 
 module _ (s : Layout) (start : SetPair) (first : List ℕ) (ms : Past) where
-  -- what is known of the lists at a stage behind the first one
+  -- what is known of the lists at a stage after the first one
   abbrev lists_at : Stage → SetPair → Type 0
   lists_at Head p = ⊥
   lists_at (ListLen at) p = ((x : ℕ) → Noted s start ms x → ⊥) × (at ≡ head_at s first) × (p.0.head ≡ head_at s first) × ((list : Ranges) × IsVacatedList s first (head_at s first) list)
@@ -80,7 +80,7 @@ module _ (s : Layout) (start : SetPair) (first : List ℕ) (ms : Past) where
       (λ e. (record { head = read.head; list = read.list }, gathered))
       (λ e. lists_after_walk p slot (ltb-false slot p.0.end e) walking read gathered)
 
-  -- the walk comes to a slot, and may pass an interval
+  -- the walk reaches a slot, and may pass an interval
   lists_come_to : (p : SetPair) (slot : ℕ) → IsWalking p slot → HasReadFirst s first p → Gathered (Noted s start ms) p → ListsOf (come_to p slot)
   lists_come_to p slot walking read gathered = cond_both (begins_at p.1.read p.0.passed slot) (at_slot (pass_interval p) (highest p.1.read p.0.passed + 1)) (at_slot p slot) ListsOf
       (λ e.
@@ -114,7 +114,7 @@ no_interval : (list : Ranges) → length list ≡ 0 → list ≡ []
 no_interval [] e = refl
 no_interval (r ∷ list) e = absurd (omega (arith, e))
 
--- what the next moment tells
+-- what the next moment shows
 module _ (s : Layout) (layout : IsLayout s) (spent : Bool) (f : Buffers) (first : List ℕ) (done : Past) (p : SetPair) (now : List ℕ) (b : Behind s spent f (first ∷ done) p now) where
   abbrev Old : ℕ → Type 0
   Old = Noted s (fresh_set s spent, f) (first ∷ done)
@@ -374,7 +374,7 @@ module _ (s : Layout) (layout : IsLayout s) (spent : Bool) (f : Buffers) (first 
   step_known (Publish at) step is possible e goes knows = (record { head = knows.0.head; list = knows.0.list }, whole_on (λ x at one. let never : ⊥ = cc in never) knows.1)
   step_known Done step is possible e goes knows = let never : ⊥ = cc in absurd never
 
--- behind the first step
+-- after the first step
 lists_begin : (s : Layout) (spent : Bool) (f : Buffers) (first : List ℕ) → Orderly s first → ListsOf s (fresh_set s spent, f) first (first ∷ []) (advance_set (fresh_set s spent, f) (head_at s first))
 lists_begin s spent f first orderly =
     let x = head_at s first in
@@ -384,7 +384,7 @@ lists_begin s spent f first orderly =
     (λ e. (none, record { head = refl; list = inl (eqb-true x 0 e, refl) }))
     (λ e. (none, refl, refl, elim orderly.head [ inl empty ↦ absurd (eqb-false x 0 e empty) | inr there ↦ there ]))
 
--- wherever a run has come to
+-- wherever a run is
 lists_behind : (s : Layout) (spent : Bool) (f : Buffers) (first : List ℕ) (ms : Past) (q : SetPair) → IsLayout s → AreFoundFor s f → IsPairwiseOrderly s [] (first ∷ ms) →
     LeadsTo (fresh_set s spent, f) (first ∷ ms) q → ListsOf s (fresh_set s spent, f) first (first ∷ ms) q
 unfolding Steps
@@ -406,7 +406,7 @@ goes_in q stage together is = subst (λ st. set_goes_at st q) is together.stage
 knows_in : (s : Layout) (first : List ℕ) (past : Past) (q : SetPair) (stage : Stage) → Knows s first past q → q.0.stage ≡ stage → knows_by (facts_of_moments s first past) stage q
 knows_in s first past q stage knows is = subst (λ st. knows_by (facts_of_moments s first past) st q) is knows
 
--- what is behind was at one of the moments of the run
+-- what is past was at one of the moments of the run
 from_onto : (P : List ℕ → Type 0) (first : List ℕ) (ms : Past) → AtSome P (onto ms (first ∷ [])) → AtSome P (first ∷ ms)
 from_onto P first ms some = elim (onto_some P ms (first ∷ []) some) [
   | inl behind ↦ elim behind [ inl here ↦ inl here | inr never ↦ absurd never ]
@@ -436,7 +436,7 @@ list_read s start first ms (Write at k count word) q e lists = lists.0.list
 list_read s start first ms (Publish at) q e lists = lists.0.list
 list_read s start first ms Done q e lists = lists.0.list
 
--- the lists of vacated slots, for each machine that a run has come to
+-- the lists of vacated slots, for each machine that a run has reached
 keeps_lists : (s : Layout) (spent : Bool) (f : Buffers) (moments : Past) (q : SetPair) → IsLayout s → AreFoundFor s f → IsPairwiseOrderly s [] moments → LeadsTo (fresh_set s spent, f) moments q →
     KeepsLists s (fresh_set s spent, f) moments q
 keeps_lists s spent f [] q layout sizes orderly leads =

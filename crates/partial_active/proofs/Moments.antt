@@ -1,4 +1,4 @@
--- What holds at some of a getSet's steps, and an induction over the steps behind the first.
+-- What holds at some of a getSet's steps, and an induction over the steps after the first.
 use Rattle.partial_active.proofs.{Common.{ℕ, ◌≡◌, ◌++◌, ◌⊎◌, Bool, Option, Some, List, [], ◌∷◌, inl, inr, refl, sym, ◌∙◌, ap, subst, append_assoc, append-nil, Step, Load, Layout, IsLayout, list_head, answer_of, Buffers, AreFoundFor, SetPair, fresh_set, set_step_due, advance_set, SetGoesTogether, IsPossibleInSet, Orderly, head_at, OnEach, AtSomeStep, answered_from}, Orders.{Past, ComesFrom, IsPairwiseOrderly, LeadsTo, run_front}, Active.{onto, run_split, step_from, reached_from}}
 use Rattle.std.specs.Option.{option_map_or}
 
@@ -8,7 +8,7 @@ at_later P p [] now some = absurd some
 at_later P p (w ∷ ws) now (inl h) = inl h
 at_later P p (w ∷ ws) now (inr h) = inr (at_later P (answered_from p w) ws now h)
 
--- the steps lead the machine behind its first step on
+-- the steps lead the machine after its first step on
 leads_on : (p q : SetPair) (w : List ℕ) (ws : Past) → LeadsTo p (w ∷ ws) q → LeadsTo (answered_from p w) ws q
 leads_on p q w ws leads = subst (λ (r : SetPair). LeadsTo r ws q) (sym (ap (λ (o : Option Step). option_map_or (λ step. advance_set p (answer_of w step)) o p) leads.1)) leads.2
 
@@ -29,13 +29,13 @@ leads_push : (p q : SetPair) (ms : Past) (now : List ℕ) (step : Step) → Lead
 leads_push p q [] now step leads e = (step, ap (λ (r : SetPair). set_step_due r.0) (sym leads) ∙ e, ap (λ (r : SetPair). advance_set r (answer_of now step)) leads)
 leads_push p q (w ∷ ws) now step leads e = (leads.0, leads.1, leads_push (advance_set p (answer_of w leads.0)) q ws now step leads.2 e)
 
--- what holds of the moments put behind holds of them
+-- what holds of the moments that are added holds of them
 onto_back : (P : List ℕ → Type 0) (ms past : Past) → OnEach P (onto ms past) → OnEach P past × OnEach P ms
 unfolding onto
 onto_back P [] past each = (each, tt)
 onto_back P (w ∷ ws) past each = let both = onto_back P ws (w ∷ past) each in (both.0.1, (both.0.0, both.1))
 
--- the machine behind the first moment and some more, and the words that answer it now
+-- the machine after the first moment and some more, and the words that answer it now
 pub record Behind (s : Layout) (spent : Bool) (f : Buffers) (done : Past) (p : SetPair) (now : List ℕ) : Type 0 where
   pub leads : LeadsTo (fresh_set s spent, f) done p
   pub sizes : p.0.sizes ≡ s
@@ -44,7 +44,7 @@ pub record Behind (s : Layout) (spent : Bool) (f : Buffers) (done : Past) (p : S
   pub comes : OnEach (λ v. ComesFrom s v now) done
   pub possible : (st : Step) → set_step_due p.0 ≡ Some st → IsPossibleInSet p (answer_of now st)
 
--- what holds behind the first step, and goes on to hold behind each later one, holds behind all of them
+-- what holds after the first step, and goes on to hold after each later one, holds after all of them
 module _ (s : Layout) (layout : IsLayout s) (spent : Bool) (f : Buffers) (sizes : AreFoundFor s f) (first : List ℕ) (Holds : Past → SetPair → Type 0)
     (step : (done : Past) (p : SetPair) (now : List ℕ) (st : Step) → Behind s spent f (first ∷ done) p now → set_step_due p.0 ≡ Some st → Holds (first ∷ done) p →
     Holds ((first ∷ done) ++ now ∷ []) (advance_set p (answer_of now st))) where

@@ -26,7 +26,7 @@ each_once_distinct : (ys : List ℕ) → IsDistinct nat_eq (each_once ys)
 unfolding IsDistinct
 each_once_distinct ys = with_all_distinct [] ys tt
 
--- one more number behind those that rise
+-- one more number after those that rise
 rising_push : (xs : List ℕ) (n : ℕ) → AreRising xs → ((k : ℕ) → k < length xs → slice_index xs k < n) → AreRising (xs ++ n ∷ [])
 rising_push xs n rising below j k less inside =
     let longer = length_push xs n in
@@ -59,7 +59,7 @@ record Reading (s : Layout) (start : SetPair) (ms : Past) (a : Announcement) (i 
 abbrev NamedAll : Layout → SetPair → Past → SetPair → Type 0
 NamedAll s start ms p = (n : ℕ) × (n ≤ p.0.sizes.slots) × Named s start ms n p.1.indices
 
--- what is known of them at a stage behind the first one
+-- what is known of them at a stage after the first one
 named_at : Layout → SetPair → Past → Stage → SetPair → Type 0
 named_at s start ms Head p = ⊥
 named_at s start ms (ListLen at) p = (p.1.indices ≡ []) × ((a : Announcement) → AtSomeStep (FindsAnnouncement s a) start ms → ⊥)
@@ -153,7 +153,7 @@ one_announcement s words a b slot there here =
     let named : a.named ≡ b.named = ext_get_or 0 a.named b.named same.0 (λ k below. sym (same.1 k below)) in
     ap (λ n. record { slot = n; named = a.named }) slot ∙ ap (λ l. record { slot = b.slot; named = l }) named
 
--- what the next moment tells
+-- what the next moment shows
 module _ (s : Layout) (layout : IsLayout s) (spent : Bool) (f : Buffers) (first : List ℕ) (done : Past) (p : SetPair) (now : List ℕ) (b : Behind s spent f (first ∷ done) p now) where
   abbrev Old : Announcement → Type 0
   Old a = AtSomeStep (FindsAnnouncement s a) (fresh_set s spent, f) (first ∷ done)
@@ -365,7 +365,7 @@ module _ (s : Layout) (layout : IsLayout s) (spent : Bool) (f : Buffers) (first 
   step_known (Publish at) step is possible e goes knows = ended_on (Publish at) is (λ slot same. let never : ⊥ = cc in never) knows
   step_known Done step is possible e goes knows = let never : ⊥ = cc in absurd never
 
--- behind the first step
+-- after the first step
 named_begin : (s : Layout) (spent : Bool) (f : Buffers) (first : List ℕ) → NamedBy s (fresh_set s spent, f) (first ∷ []) (advance_set (fresh_set s spent, f) (head_at s first))
 unfolding named_at
 named_begin s spent f first =

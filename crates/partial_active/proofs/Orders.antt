@@ -2,7 +2,7 @@
 use Rattle.partial_active.proofs.Common.{ℕ, ◌≡◌, ◌<◌, ◌⊎◌, ◌++◌, ◌==◌, Bool, true, false, if◌then◌else◌, Some, MatchBool, List, [], ◌∷◌, inl, inr, refl, sym, ◌∙◌, arith, Ranges, Step, Layout, StandsAt, answer_of, words_after, announcement_block, list_block, SetPair, set_step_due, advance_set, slot_at, head_at, IsAnnouncement, IsVacatedList, Orderly, Publishes, OnEach, AtSome, IsOrderlyEvent, AreOrderly, IsOrderlyRun, words_behind, own_moments, MakesOwn}
 use Rattle.partial_words.specs.declared.step.Event.{Event}
 
--- the moments behind, the latest first
+-- the moments so far, the latest first
 abbrev pub Past : Type 0
 Past = List (List ℕ)
 
@@ -57,12 +57,12 @@ each_comes_on s all (w ∷ ws) before after event within comes = (
   each_comes_on s all ws before after event (λ at block h. within at block (inr h)) comes.1,
 )
 
--- the words behind an event come from those of every moment so far
+-- the words after an event come from those of every moment so far
 event_comes : (s : Layout) (past : Past) (before after : List ℕ) → IsOrderlyEvent s (before ∷ past) before after → OnEach (λ v. ComesFrom s v before) past →
     OnEach (λ v. ComesFrom s v after) (before ∷ past)
 event_comes s past before after event comes = each_comes_on s (before ∷ past) (before ∷ past) before after event (λ at block h. h) (comes_at_once s before, comes)
 
--- the moments of one port and the one behind the events are so in pairs; fewer moments are behind them than behind the events
+-- the moments of one port and the one after the events are so in pairs; fewer moments are after them than after the events
 own_orderly : (s : Layout) (own : ℕ) (all past : Past) (words : List ℕ) (es : List Event) → ((w : List ℕ) → OnEach (λ v. ComesFrom s v w) all → OnEach (λ v. ComesFrom s v w) past) →
     Orderly s words → OnEach (λ v. ComesFrom s v words) all → AreOrderly s all words es → IsPairwiseOrderly s past (own_moments own words es ++ words_behind words es ∷ [])
 own_orderly s own all past words [] fewer orderly comes run = (orderly, fewer words comes, tt)
@@ -79,7 +79,7 @@ pub run_front : (s : Layout) (past ms more : Past) → IsPairwiseOrderly s past 
 run_front s past [] more run = tt
 run_front s past (w ∷ ws) more run = (run.0, run.1, run_front s (w ∷ past) ws more run.2)
 
--- the moments of one port in an orderly run, and the one behind the run
+-- the moments of one port in an orderly run, and the one after the run
 pub moments_to_end : (s : Layout) (own : ℕ) (words : List ℕ) (es : List Event) → IsOrderlyRun s words es → IsPairwiseOrderly s [] (own_moments own words es ++ words_behind words es ∷ [])
 moments_to_end s own words es run = own_orderly s own [] [] words es (λ w h. h) run.0 tt run.1
 

@@ -22,7 +22,7 @@ module _ (p : SetPair) (slot : ℕ) (walking : IsWalking p slot) where
       let both = and_parts (nat_lt p.0.passed (length p.1.read)) ((lowest p.1.read p.0.passed) == slot) e in
       (ltb-true p.0.passed (length p.1.read) both.0, eqb-true (lowest p.1.read p.0.passed) slot both.1)
 
-  -- that interval lies behind the next list
+  -- that interval lies after the next list
   pub interval_behind : begins_at p.1.read p.0.passed slot ≡ true → LiesBehind p.1.next (lowest p.1.read p.0.passed) (highest p.1.read p.0.passed)
   interval_behind e =
       let b = begun e in
@@ -105,7 +105,7 @@ module _ (p : SetPair) (slot : ℕ) (walking : IsWalking p slot) where
       (λ e. omega arith)
       (λ e. omega (arith, after_walk_left))
 
--- wherever the walk comes to, the machine and its buffers go together
+-- wherever the walk is, the machine and its buffers go together
 pub come_to_goes : (p : SetPair) (slot : ℕ) → IsWalking p slot → AreFoundFor p.0.sizes p.1 → SetGoesTogether (come_to p slot)
 come_to_goes p slot walking sizes = cond_both (begins_at p.1.read p.0.passed slot) (at_slot (pass_interval p) (highest p.1.read p.0.passed + 1)) (at_slot p slot) (λ q. SetGoesTogether q)
     (λ e. at_slot_goes (pass_interval p) (highest p.1.read p.0.passed + 1) (walking_on p slot walking e) (record { limit = sizes.limit; room = sizes.room }) (outside_on p slot walking e))

@@ -118,6 +118,7 @@ set_goes_at (Write at k words word) p =
 set_goes_at (Publish at) p = IsNormal p.1.next × EndsBelow p.1.next p.0.sizes.slots
 set_goes_at Done p = Unit {0}
 
+-- a getSet and its buffers go together: its sizes and what it has found, and what holds at its stage
 pub record SetGoesTogether (p : SetPair) : Type 0 where
   pub sizes : AreFoundFor p.0.sizes p.1
   pub stage : set_goes_at p.0.stage p

@@ -11,7 +11,7 @@ use Rattle.partial_core.specs.ActiveSet.PortMove.{Makes, Looks}
 lawful_at : (z : Layout) (o : Opening) (s : MemoryState) (own : ℕ) (p : HasPart own s) → IsLawfulMemory z o s → LawfulAmong z o p.among
 lawful_at z o s own p w = subst (IsLawfulMemory z o) p.is w
 
--- what is published behind a state is so yet
+-- what is published after a state is so yet
 abbrev Keeps : Layout → List (List ℕ) → MemoryState → Type 0
 Keeps z past s = KeepsPublished z past s.words (holdings s.parts)
 

@@ -130,7 +130,7 @@ module _ (z : Layout) (o : Opening) (m : PartAmong) (w : LawfulAmong z o m) wher
   leads_core : (step : Step) → step_of (core_of x) ≡ Some step → LeadsAt z o m (core_of x).stage step
   leads_core step due = leads_stage (core_of x).stage step refl due
 
--- the step of a part with its call begun, told of the part as it was before
+-- the step of a part with its call begun, stated of the part as it was before
 module _ (z : Layout) (o : Opening) (m : PartAmong) (c : CoreState) (step : Step) (w : LawfulAmong z o (record m { part = started c m.part })) (mine : c ≡ core_of (started c m.part))
     (holds : holding_of (started c m.part) ≡ holding_of m.part) (port : port_of (started c m.part) ≡ port_of m.part) (due : step_of c ≡ Some step) where
   open m use {words, before, part as x, after, log}

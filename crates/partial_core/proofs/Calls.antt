@@ -36,7 +36,7 @@ module _ (z : Layout) (o : Opening) (words : List ℕ) (hs : List Holding) (log 
   layout : IsLayout z
   layout = w.sizes
 
-  -- behind the first answer
+  -- after the first answer
   first_on : (since : ℕ) (s : CoreState) (k : KeptAnswer) (t : Stage) → s ≡ begun → s.sizes ≡ z → s.stage ≡ t → has_no_step t ≡ true → is_sound_at s t → IsPossibleAt s t k.answer →
       IsTrueYet z o words hs log (step_at s t) k → Knows z o words hs log begun k.at since k.at (advance_at s t k.answer)
   first_on since s k Idle is sizes e none may possible yet = absurd possible
@@ -52,7 +52,7 @@ module _ (z : Layout) (o : Opening) (words : List ℕ) (hs : List Holding) (log 
       (λ refused. tt)
   first_on since s k _ is sizes e none may possible yet = absurd (false≢true none)
 
-  -- what a machine knows behind further answers
+  -- what a machine knows after further answers
   pub record HasGone (first since high : ℕ) (s : CoreState) : Type 0 where
     pub order : first ≤ high
     pub inside : high ≤ length log

@@ -53,7 +53,7 @@ module _ (z : Layout) (o : Opening) (m : PartAmong) (w : LawfulAmong z o m) wher
     abbrev held : Holding
     held = holding_in (core_of x) (ClaimingRecord c old) (joined_since x)
 
-    -- the machine behind the step, by what its tests say
+    -- the machine after the step, by what its tests say
     abbrev on : Bool → Bool → CoreState
     on some fits = if some then into_spare s c old else (if fits then into_claim s c old a else pool_refused s)
 

@@ -44,7 +44,7 @@ module _ (u : CoreState) (c : Change) (old : ℕ) (e : u.stage ≡ GettingSet c 
   abbrev pub past : Stage → CoreState
   past v = record u { embedded = viewing.fresh_view u.sizes true; stage = v }
 
-  -- the machine behind an answer to its getSet
+  -- the machine after an answer to its getSet
   pub by_due : (P : CoreState → Type 0) → P u → ((v : Stage) → finding.set_step_due u.get_set ≡ None → (v ≡ ClaimingRecord c old) ⊎ (v ≡ Viewing c old) → P (past v)) → P (after_getting u c old)
   by_due P goes ended = by_step (finding.set_step_due u.get_set) refl
     where
@@ -56,7 +56,7 @@ module _ (u : CoreState) (c : Change) (old : ℕ) (e : u.stage ≡ GettingSet c 
       by_step None is = subst Case (sym is) (cond_both (length u.found.indices == 0) (ClaimingRecord c old) (Viewing c old) (λ (v : Stage). P (past v))
           (λ none. ended (ClaimingRecord c old) is (inl refl)) (λ some. ended (Viewing c old) is (inr refl)))
 
-  -- behind the getSet's own answer the port holds what the getSet holds
+  -- after the getSet's own answer the port holds what the getSet holds
   after_holds : (n : ℕ) → holding_at (after_getting u c old) n ≡ in_set u (own_list u.found.next u.get_set.stage) u.get_set.lists_spent
   after_holds n = by_due (λ (t : CoreState). holding_at t n ≡ in_set u (own_list u.found.next u.get_set.stage) u.get_set.lists_spent)
       (ap (λ (v : Stage). holding_in u v n) e)
@@ -149,7 +149,7 @@ module _ (z : Layout) (o : Opening) (m : PartAmong) (w : LawfulAmong z o m) (c :
   silent : (a : ℕ) → AreNotesOf o (gone x log a []) (reply_of (advance_at (core_of x) (GettingSet c old) a)) []
   silent a = subst (λ (r : Option Reply). AreNotesOf o (gone x log a []) r []) (sym (no_reply (with_getting (core_of x) (finding.advance_set (getting (core_of x)) a)) c old e)) refl
 
-  -- what the port holds behind an answer
+  -- what the port holds after an answer
   holds_then : (a : ℕ) (own : Option Own) (spent : Bool) → own_list (finding.advance_set (getting (core_of x)) a).1.next (finding.advance_set (getting (core_of x)) a).0.stage ≡ own →
       (finding.advance_set (getting (core_of x)) a).0.lists_spent ≡ spent → holding_at (advance_at (core_of x) (GettingSet c old) a) (joined_since x) ≡ in_set (core_of x) own spent
   holds_then a own spent owns marks =

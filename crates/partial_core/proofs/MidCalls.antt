@@ -35,7 +35,7 @@ IsViewed z o words hs log first s = sets.FindsJoined hs first s.found.indices ×
     (((length s.found.indices ≡ 0) × (s.embedded.borrowed ≡ None)) ⊎ is_finished z o words hs log s.found.indices first (scanning s))
 
 module _ (z : Layout) (o : Opening) (words : List ℕ) (hs : List Holding) (log : List Applied) (begun : CoreState) (first : ℕ) where
-  -- what is known at a stage behind the first answer, where the port joined and the last answer was given at these lengths
+  -- what is known at a stage after the first answer, where the port joined and the last answer was given at these lengths
   abbrev pub knows_at : ℕ → ℕ → CoreState → Stage → Type 0
   knows_at since high s Idle = ⊥
   knows_at since high s (ReadBegun j) = ⊥
@@ -136,7 +136,7 @@ set_answer z o words hs log low p (Some (Add n v)) k due possible after yet = po
 
 module _ (z : Layout) (o : Opening) (words : List ℕ) (hs : List Holding) (log : List Applied) (w : LawfulWords z o words hs log) (begun : CoreState) (first since high : ℕ) (order : first ≤ high)
     (s : CoreState) (sizes : s.sizes ≡ z) (sound : IsSound s) (k : KeptAnswer) (after : high ≤ k.at) (within : k.at ≤ length log) where
-  -- what is known behind the answer, where the port joined at that length
+  -- what is known after the answer, where the port joined at that length
   abbrev pub Then : ℕ → CoreState → Type 0
   Then n t = Knows z o words hs log begun first n k.at t
 

@@ -59,7 +59,7 @@ kept_push z o words hs log low s (x ∷ ks) k w behind all possible within yet =
     let inside = w.0.within in
     (w.0, kept_push z o words hs log x.at (advance s x.answer) ks k w.1 (all x.at inside) all possible within yet)
 
--- the part behind one answer more
+-- the part after one answer more
 abbrev pub gone : Part → List Applied → ℕ → List Noted → Part
 gone x l a new = record { seen = l; notes = x.notes ++ new; begun = x.begun; kept = x.kept ++ record { answer = a; at = length l } ∷ []; since = x.since; past = x.past }
 
@@ -117,12 +117,12 @@ known_end z o words hs l x a n w going possible yet legal shown rest =
     known_gone z o words hs l x a (n ∷ []) w going possible yet (LegalNotes-push o l (port_of x) 0 x.notes n (legal_on o x.seen l (port_of x) 0 x.notes w.seen w.notes) legal) shown (omega arith)
     (λ r. absurd (false≢true (sym r ∙ rest)))
 
--- what the ports before, here and behind hold
+-- what the ports before, here and after hold
 pub holdings_split : (before : List Part) (x : Part) (after : List Part) → holdings (before ++ x ∷ after) ≡ holdings before ++ holding_of x ∷ holdings after
 holdings_split [] x after = refl
 holdings_split (b ∷ before) x after = ap (λ (hs : List Holding). holding_of b ∷ hs) (holdings_split before x after)
 
--- what holds of all parts holds of those before, of this one and of those behind
+-- what holds of all parts holds of those before, of this one and of those after
 pub all_at : {A : Type 0} (P : A → Type 0) (before : List A) (x : A) (after : List A) → AllByRecursion P (before ++ x ∷ after) → P x
 all_at P [] x after w = w.0
 all_at P (b ∷ before) x after w = all_at P before x after w.1

@@ -1,4 +1,4 @@
--- The blocks that lawful words publish: none of their words changes behind any step, and so each step is an orderly event.
+-- The blocks that lawful words publish: none of their words changes after any step, and so each step is an orderly event.
 use Rattle.partial_core.proofs.{Common.{ℕ, ◌≡◌, ◌+◌, ◌<◌, ◌≤◌, Some, List, [], ◌∷◌, length, inl, inr, sym, subst, ◌∙◌, arith, Ranges, Applied, Opening, Step, Layout, list_base, total, StandsAt, words_after, announcement_block, announcement_size, list_block, list_reads_back, length-pairs, IsAnnouncement, IsVacatedList, Publishes, slot_at, head_at, AtSome, IsOrderlyEvent, IsAnnounced, IsPublishedList, IsHead, Holding, unpublished, LawfulWords, IsSlotAnswer, IsPublished, announcement_claimed, list_claimed, block_published, CoreState, step_of, IsMachineOf, holdings, LeadsOn, StepsAreOrderly, PartAmong, LawfulAmong, all_parts, memory_after}, AllSteps.steps_stay_lawful, Ordered.{slot_now, lawful_is_orderly, steps_move_slots}}
 use Rattle.partial_words.proofs.PlainLemmas.{same_long}
 use Rattle.partial_active.proofs.Indices.{same_named}
@@ -15,7 +15,7 @@ module _ (z : Layout) (o : Opening) (words : List ℕ) (hs : List Holding) (log 
   abbrev ListsSo : ℕ → Ranges → Type 0
   ListsSo at list = (other : Ranges) × (length (list_block other) ≡ length (list_block list)) × IsPublishedList z words (unpublished hs) at other
 
-  -- what the announcement in a slot tells: a published block of the pool
+  -- what the announcement in a slot is: a published block of the pool
   announced_in : (l : ℕ) (named : List ℕ) → l < z.slots → IsAnnouncement z words (slot_at z words l) named → AnnouncesSo (slot_at z words l) named
   announced_in l named below there = by_answer (slot_now z o words hs log w l below)
     where

@@ -51,7 +51,7 @@ module _ (z : Layout) (o : Opening) (m : PartAmong) (w : LawfulAmong z o m) wher
       load_quiet z o m w (ReadBegun j) j (at_stage (core_of x) (LoadingValue (slice_index words j))) e refl refl refl (component_readable j below)
       (at_sizes (λ y. IsRecord y (slice_index words j)) (component_record j below)) refl refl refl
 
-  -- the value behind the stamp that a read has loaded
+  -- the value after the stamp that a read has loaded
   pub value_loaded : (stamp : ℕ) → (core_of x).stage ≡ LoadingValue stamp → LeadsAt z o m (LoadingValue stamp) (Load (value_word stamp))
   value_loaded stamp e =
       let g = going z o m w (LoadingValue stamp) e refl refl in

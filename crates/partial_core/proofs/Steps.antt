@@ -3,7 +3,7 @@ use Rattle.partial_core.proofs.{Common.{ℕ, ◌≡◌, ◌<◌, ◌≤◌, ◌+
 use Rattle.partial_machine.specs.declared.stage.Stage.TheVariants.{Idle, ReadBegun, LoadingValue, UpdateBegun, GettingSet, Viewing, ClaimingRecord, StoringRecord, Exchanging, ScanBegun, StoringAnnouncement, Joining, Scanning, Leaving, Finished}
 use Rattle.partial_core.specs.Held.{claimed_at, due_at}
 
--- the memory behind a step of the part's machine at a stage, with what is noted
+-- the memory after a step of the part's machine at a stage, with what is noted
 abbrev pub memory_gone : PartAmong → Stage → Step → List Noted → PartAmong
 memory_gone m s step new =
     let a = answer_of m.words step in
@@ -78,7 +78,7 @@ module _ (z : Layout) (o : Opening) (m : PartAmong) (w : LawfulAmong z o m) wher
   pub memory_at : (s : Stage) → (core_of x).stage ≡ s → LawfulWith z o m (holding_in (core_of x) s (joined_since x))
   memory_at s e = subst (λ (t : Stage). LawfulWith z o m (holding_in (core_of x) t (joined_since x))) e memory_here
 
-  -- what the part holds behind one answer more
+  -- what the part holds after one answer more
   pub holding_gone : (s : Stage) (t : CoreState) (l : List Applied) (a : ℕ) (new : List Noted) → (core_of x).stage ≡ s → advance_at (core_of x) s a ≡ t → holding_of (gone x l a new) ≡ holding_at t
       (if joins_at (core_of x) s then length l else joined_since x)
   holding_gone s t l a new e leads =
@@ -105,7 +105,7 @@ module _ (z : Layout) (o : Opening) (m : PartAmong) (w : LawfulAmong z o m) wher
     holding_then : (new : List Noted) → holding_of (gone x log (answer_of words step) new) ≡ h'
     holding_then new = holding_gone s t log (answer_of words step) new e leads ∙ holds
 
-    -- the state behind the step, with what is noted
+    -- the state after the step, with what is noted
     lawful_then : (new : List Noted) → places_written new ≡ [] → ((hs : List Holding) → IsKnown z o (words_after words step) hs log x → IsTrueYet z o (words_after words step) hs log
         (step_of (core_of x)) (record { answer = answer_of words step; at = length log }) → IsKnown z o (words_after words step) hs log (gone x log (answer_of words step) new)) →
         LawfulAmong z o (record m { words = words_after words step; part = gone x log (answer_of words step) new })
@@ -244,7 +244,7 @@ module _ (z : Layout) (o : Opening) (m : PartAmong) (w : LawfulAmong z o m) wher
   pub going : (s : Stage) → (core_of x).stage ≡ s → is_begun s ≡ false → is_at_rest s ≡ false → IsGoing z o words (holdings (before ++ x ∷ after)) log x s
   going s e begun rest = going_from z o words (holdings (before ++ x ∷ after)) log x x.kept s refl w.memory (known_here z o m w) e begun rest
 
--- a machine behind its first answer isn't begun
+-- a machine after its first answer isn't begun
 not_begun : (z : Layout) (o : Opening) (words : List ℕ) (hs : List Holding) (log : List Applied) (begun : CoreState) (first since high : ℕ) (s : CoreState) (t : Stage) →
     knows_at z o words hs log begun first since high s t → is_begun t ≡ false
 not_begun z o words hs log begun first since high s Idle w = refl

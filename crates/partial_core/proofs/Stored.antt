@@ -1,4 +1,4 @@
--- The store of a word of an update's record: behind the last one the exchange is due.
+-- The store of a word of an update's record: after the last one the exchange is due.
 use Rattle.partial_core.proofs.{Common.{ℕ, ◌≡◌, ◌+◌, ◌<◌, ◌≤◌, ◌==◌, ◌++◌, Bool, true, false, if◌then◌else◌, Option, Some, None, IfSome, List, ◌∷◌, length, slice_index, slice_get, inl, inr, refl, sym, ap, subst, ◌∙◌, arith, AllByRecursion, eqb-true, Applied, Opening, Step, Store, Layout, pool_end, words_after, prev_of, prev_word, view_word, plain_record_size, Change, Stage, StoringRecord, Exchanging, CoreState, at_stage, record_words, record_size, scanning, AreComponentIndices, is_sound_at, JoinedAnnouncement, IsBegunSince, ClaimedSlot, Holding, Own, Due, IfJoined, unpublished, Pool, IsEntry, IsPublished, stores_are_kept, dues_are_kept, loads_are_true, entry_published, if_all, three_words, all_before, all_after, all_append, IsThird, core_of, first_at, holding_of, holdings, joined_since, AllByRecursion-get, PartAmong, LawfulAmong}, MidCalls.IsViewed, Parts.{IsKeptAmong, holdings_split}, Steps.{LeadsAt, holding_in, sizes_here, sound_here, sound_at, memory_at, going, quiet}, Joins.keeps_then, StoredFacts.{HasViewed, length_record, record_due}}
 use Rattle.partial_knowledge.specs.Sets as sets
 use Rattle.partial_model.proofs.AllLemmas.{all_where}

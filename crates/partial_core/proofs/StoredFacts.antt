@@ -35,7 +35,7 @@ no_pairs : (value : ℕ → ℕ) (js : List ℕ) → length js ≡ 0 → map {B 
 no_pairs value [] e = refl
 no_pairs value (j ∷ js) e = absurd (omega (arith, e))
 
--- a record with pairs has the words of its view behind the first three
+-- a record with pairs has the words of its view after the first three
 behind_three : (old v view : ℕ) (ps : List (ℕ × ℕ)) → 0 < length ps → length (record_block old v view ps) ≡ plain_record_size + length (view_block ps)
 behind_three old v view [] some = absurd (omega (arith, some))
 behind_three old v view (p ∷ ps) some = omega arith
@@ -47,7 +47,7 @@ view_stands words at old v view (p ∷ ps) some stands = λ k lt.
     let inside = h.0 in
     (omega (arith, inside), ap (λ n. slice_index words n) (omega arith) ∙ h.1)
 
--- a view stands behind the record of an entry, or is none
+-- a view stands after the record of an entry, or is none
 abbrev IsOwned : List Applied → ℕ → Type 0
 IsOwned log v = (v ≡ 0) ⊎ ((k : ℕ) × (e : Applied) × (slice_get log k ≡ Some e) × (v ≡ own_view e.stamp))
 

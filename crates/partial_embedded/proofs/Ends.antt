@@ -69,7 +69,7 @@ module _ (indices : List ℕ) (p : ViewPair) (x : ℕ) (xs : List ℕ) where
   pairs_end v at left true w = view_ends (view_at_stage v Done) (xs ++ x ∷ []) w
   pairs_end v at left false w = w
 
-  -- behind a load of a collect
+  -- after a load of a collect
   collect_ends : (k : ℕ) → p.0.borrowed ≡ None → (b c d : Bool) → let q =
       (if b then borrow p x else (if c then view_at_stage (noted_load p k x) (Collect (k + 1))
       else (if d then (record (noted_load p k x).0 { collects = p.0.collects + 1; moved = false; stage = Collect 0 }, (noted_load p k x).1)
@@ -90,7 +90,7 @@ module _ (indices : List ℕ) (p : ViewPair) (x : ℕ) (xs : List ℕ) where
     none,
   )
 
-  -- behind the load of a value
+  -- after the load of a value
   value_ends : (k : ℕ) → k < length indices → LoadsValues indices xs p k → p.0.borrowed ≡ None → (b : Bool) → nat_lt (k + 1) (length indices) ≡ b → let q =
       view_at_stage (with_value p (slice_index indices k) x) (if b then Value (k + 1) else Done) in ending_at indices q (xs ++ x ∷ []) q.0.stage
   value_ends k below l none b e = by b e

@@ -19,7 +19,7 @@ loaded scan positions z indices p q x old new together same at those possible th
       sizes = ap (λ (r : ViewPair). r.0.sizes) is ∙ sizes_stay indices p x ∙ same;
     }
 
--- behind a load of a collect that isn't the first the scan doesn't come to the first again
+-- after a load of a collect that isn't the first the scan doesn't reach the first again
 pub still_later : (indices : List ℕ) (p q : ViewPair) (k x : ℕ) → ViewGoesTogether indices p → p.0.stage ≡ Collect k → p.0.collects ≢ 1 → q ≡ after_load (length indices) p k x → q.0.collects ≢ 1
 still_later indices p q k x together stage later is first =
     let begun = (subst (view_goes_at indices p) stage together.stage).2 in

@@ -1,4 +1,4 @@
--- Behind its collects an embedded scan loads no component word.
+-- After its collects an embedded scan loads no component word.
 use Rattle.partial_embedded.proofs.Common.{ℕ, Bool, true, false, ◌≡◌, ◌+◌, ◌-◌, ◌≤◌, ◌==◌, ◌||◌, if◌then◌else◌, nat_lt, Some, List, length, slice_index, sym, subst, arith, Load, Stage, Collect, View, Len, Index, PairValue, Value, Done, ViewPair, IsPastCollects, advance_view_at, view_goes_at, view_step_at, next_word, pairs_word, value_word, view_word}
 
 past_if : (b : Bool) (s t : Stage) → IsPastCollects s → IsPastCollects t → IsPastCollects (if b then s else t)
@@ -15,7 +15,7 @@ stay_past indices p (PairValue at left index) x is past = past_if (left - 1 == 0
 stay_past indices p (Value k) x is past = past_if (nat_lt (k + 1) (length indices)) (Value (k + 1)) Done tt tt
 stay_past indices p Done x is past = subst IsPastCollects (sym is) tt
 
--- a word that is due behind the collects is one of the pool
+-- a word that is due after the collects is one of the pool
 pub due_behind : (indices : List ℕ) (p : ViewPair) (s : Stage) (word : ℕ) → view_goes_at indices p s → IsPastCollects s →
     view_step_at p.0.sizes indices p.1.last s ≡ Some (Load word) → p.0.sizes.m ≤ word
 due_behind indices p (Collect k) word goes past due = absurd past

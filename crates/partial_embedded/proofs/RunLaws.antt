@@ -3,7 +3,7 @@ use Rattle.partial_embedded.proofs.{Common.{ℕ, ◌≡◌, ◌+◌, ◌<◌, �
 use Rattle.partial_words.specs.declared.step.Step.{Step}
 use Rattle.partial_words.specs.declared.step.Step.TheVariants.{Load}
 
--- what holds behind a run
+-- what holds after a run
 record Ran (indices : List ℕ) (p : ViewPair) (xs : List ℕ) (q : ViewPair) : Type 0 where
   together : ViewGoesTogether indices q
   sizes : q.0.sizes ≡ p.0.sizes

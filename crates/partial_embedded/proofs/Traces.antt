@@ -1,4 +1,4 @@
--- What the answers so far tell of the state in the middle of a collect, and how a scan's collects end.
+-- What the answers so far say of the state in the middle of a collect, and how a scan's collects end.
 use Rattle.partial_embedded.proofs.{Common.{◌-◌, ℕ, ◌≡◌, ◌≢◌, ◌+◌, ◌*◌, ◌<◌, ◌≤◌, ◌==◌, ◌++◌, Bool, true, false, if◌then◌else◌, not, ◌&&◌, ◌||◌, ◌⊎◌, List, [], ◌∷◌, length, slice_index_or, slice_index, refl, sym, ◌∙◌, ap, subst, inl, inr, arith, get_or-set_other, get_or-set_same, append_assoc, append-nil, length-append, nat_lt, eqb-true, eqb-false, eq-eqb, ne_eqb, ltb-false, cases_lt, false≢true, eqb_tells, get_or_append_left, mul-le-mul_left, Layout, pairs_word, next_word, Stage, Collect, View, Len, Index, PairValue, Value, Done, ViewPair, RowsState, ViewGoesTogether, view_goes_at, fresh_view, advance_view, advance_view_at, is_first, differs, was_changed, noted_load, borrow, go_on, after_collect, after_load, after_view, view_at_stage, with_value, pairs_from, IsPossibleInViewAt, ViewRun, load_in, Changes, LastTwoAreEqual, ShowsThirdRecord, EndsInEqualCollectsOrAThirdRecord}, Keeps.{kept, fresh_together, neither}}
 use Rattle.std.proofs.Math.Seq.{get_or-append_seam}
 
@@ -24,7 +24,7 @@ pub record Traced (r : ℕ) (p : ViewPair) (k : ℕ) (xs : List ℕ) : Type 0 wh
   changed : (b : ℕ) → c ≡ b + 1 → (i : ℕ) → i < r → slice_index_or p.1.changed i false ≡ true → HasChanged r xs c k i
   unmoved : (b : ℕ) → c ≡ b + 1 → p.0.moved ≡ false → (i : ℕ) → i < k → load_in r xs c i ≡ load_in r xs b i
 
--- what the answers so far tell at a stage
+-- what the answers so far say at a stage
 abbrev pub trace_at : ℕ → ViewPair → List ℕ → Stage → Type 0
 trace_at r p xs (Collect k) = Traced r p k xs
 trace_at r p xs (View stamp) = ShowsThirdRecord r xs p.0.collects stamp
@@ -235,7 +235,7 @@ still_equal r q k xs last t e =
     }
 
 module _ (indices : List ℕ) (p : ViewPair) (x : ℕ) (xs : List ℕ) (w : ViewGoesTogether indices p) where
-  -- what is known of a stage that tells nothing
+  -- what is known of a stage that says nothing
   done_or : (q : ViewPair) (ys : List ℕ) (b : Bool) (s : Stage) → trace_at (length indices) q ys s → trace_at (length indices) q ys (if b then Done else s)
   done_or q ys true s t = tt
   done_or q ys false s t = t

@@ -124,7 +124,7 @@ module _ (e : Plan) (words : List ℕ) (ports : ℕ → Port) (b : Beside) (k : 
   abbrev long : length (control_words e words) ≡ control_size e
   long = cw_long e words
 
-  -- the mark that another port holds of port k
+  -- the entering word that another port holds of port k
   pub held_mark : (p : ℕ) (a : Site) → p < e.ports → MayPut (cs p) k a → IsSite e a × IsEarlier a (cs k).here (cs k).entering
   held_mark p a low may =
       let own : IsOwner e (control_words e words) cs (site_now b) (numbers b) p may.owned =
@@ -198,7 +198,7 @@ module _ (e : Plan) (words : List ℕ) (ports : ℕ → Port) (b : Beside) (k : 
                 (λ _. let s = w.standing k inside stands in record { epoch = s.epoch; is = s.is; before = s.before; part = s.part; passed = s.passed; over = s.over }) (omega arith),
           )
 
-  -- the mark is stored
+  -- the entering word is stored
   pub marks : (ports k).control.entering ≡ Stands → (ports k).control.past ≡ true → (ports k).control.owned ≡ None →
       LawfulEpochs e (slice_set words (at_word k) (marked (ports k).control.here)) (put k (record (ports k) { control = record (ports k).control { entering = Marks } }) ports) b
   marks stands past free =

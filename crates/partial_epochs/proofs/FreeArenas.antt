@@ -50,7 +50,7 @@ module _ (e : Plan) (words : List ℕ) (ports : ℕ → Port) (b : Beside) (note
       (owner e words ports b k w below since t s o o' is arena (λ so. looked ∙ so) mark words (λ q low. refl) (λ x low. refl))
       (λ _. owner_less e words ports b k w below since t s o o' is arena (λ so. looked ∙ so) mark words (λ q low. refl) (λ x low. refl) looked) met leaves)
 
-  -- the mark that an owner holds
+  -- the entering word that an owner holds
   held : (o : OwnedArena) → (ports k).control.owned ≡ Some o → IfSome o.mark (IsHeld e words t k o)
   held o is = subst (λ (d : Option OwnedArena). IfSome d (λ o. IfSome o.mark (IsHeld e words t k o))) is (held_within e words ports b w t s k below)
 

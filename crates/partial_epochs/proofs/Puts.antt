@@ -1,7 +1,7 @@
 -- A port puts another one where it stands itself.
 use Rattle.partial_epochs.proofs.{Common.{ℕ, ◌≡◌, ◌≢◌, ◌+◌, ◌<◌, ◌≤◌, ◌==◌, ◌⊎◌, Bool, true, false, if◌then◌else◌, Option, Some, None, IfSome, List, length, slice_index, slice_set, refl, sym, ap, subst, ◌∙◌, inl, inr, arith, eqb_tells, get_or-set_same, get_or-set_other, length-set, put, Plan, Site, IsSite, at_word, control_size, control_words, current_word, marked, packed, arena_limit, Control, Entering, OwnedArena, Port, IsSiteWord, IsEarlier, IsStillMarked, IsOut, IsOwner, LawfulControl, MayPut, Beside, LawfulEpochs, controls, numbers, site_now, PutsStayLawful, at_next_port, having_put, Stands, Marks, Loaded}, Entering.{control_lifted, cw_at, cw_long, marked_epoch, not_marked}, Lists.set_of, Owning.knows_more, Offsets.packed_arena, Present.same_site}
 
--- the word of port q is set, which port k holds the mark of
+-- the word of port q is set, which port k holds the entering word of
 module _ (e : Plan) (words : List ℕ) (cs : ℕ → Control) (now : Site) (holds : ℕ → Option ℕ) (w : LawfulControl e words cs now holds) (k : ℕ) (below : k < e.ports) (o : OwnedArena) (a : Site)
     (few : e.arenas ≤ arena_limit) (long : length words ≡ control_size e) (owned : (cs k).owned ≡ Some o) (within : o.clean < e.ports) (none : o.set ≡ 0) (looked : o.looked ≡ true)
     (mark : o.mark ≡ Some a) (again : o.again ≡ true) (there : slice_index words (at_word o.clean) ≡ marked a) where

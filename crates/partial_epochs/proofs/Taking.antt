@@ -1,4 +1,4 @@
--- A port takes an arena and gives it back, finds the others elsewhere, and loads their marks.
+-- A port takes an arena and gives it back, finds the others elsewhere, and loads their entering words.
 use Rattle.partial_epochs.proofs.{Common.{ℕ, ◌≡◌, ◌≢◌, ◌+◌, ◌<◌, ◌≤◌, ◌==◌, ◌⊎◌, Bool, true, false, if◌then◌else◌, Option, Some, None, IfSome, List, length, slice_index, slice_set, refl, sym, ap, subst, ◌∙◌, inl, inr, arith, eqb_tells, get_or-set_same, get_or-set_other, length-set, put, Plan, Site, IsSite, at_word, control_size, control_words, current_word, entering_mark, marked, own_word, packed, arena_limit, Control, Entering, OwnedArena, Port, Stands, Marks, Loaded, IsSiteWord, IsEarlier, IsOut, IsOwner, LawfulControl, MayPut, Beside, IsSetting, IsStanding, LawfulEpochs, controls, numbers, site_now, GivesStayLawful, MarksAreLoaded, OthersAreElsewhere, OwnersLookAway, TakesStayLawful, at_next_port, having_given, having_loaded, having_put, just_taken, owning_port, having_passed}, Entering.{control_lifted, current_is, cw_at, cw_long, not_marked}, Lists.{put_all, set_of}, Owning.knows_more, Offsets.packed_arena, Present.same_site}
 
 -- the owner word of an arena that nobody owns is set
@@ -131,7 +131,7 @@ module _ (e : Plan) (words : List ℕ) (cs : ℕ → Control) (now : Site) (hold
   pub given_on : LawfulControl e (slice_set words (own_word e o.arena) 0) (put k freed cs) now holds
   given_on = own_word_set e words (put k freed cs) now holds freed_on o.arena 0 others_own
 
--- a port that owns an arena finds another one elsewhere, or loads its mark
+-- a port that owns an arena finds another one elsewhere, or loads its entering word
 module _ (e : Plan) (words : List ℕ) (cs : ℕ → Control) (now : Site) (holds : ℕ → Option ℕ) (w : LawfulControl e words cs now holds) (k : ℕ) (below : k < e.ports) (o : OwnedArena)
     (few : e.arenas ≤ arena_limit) (owned : (cs k).owned ≡ Some o) (within : o.clean < e.ports) where
   own_here : IsOwner e words cs now holds k o
@@ -178,7 +178,7 @@ module _ (e : Plan) (words : List ℕ) (cs : ℕ → Control) (now : Site) (hold
         last p less low ne (inl same) = subst (IsOut e words cs o.arena) (sym same.1) out_clean
         last p less low ne (inr apart) = let other = apart.1 in own_here.out p (omega (arith, less, other)) low ne
 
-  -- a word with the mark is that of a port that is entering
+  -- a word with the entering bit is that of a port that is entering
   mark_is : (t : Entering) → (cs o.clean).entering ≡ t → entering_mark ≤ slice_index words (at_word o.clean) → IsSiteWord e words o.clean (cs o.clean).here t →
       (slice_index words (at_word o.clean) ≡ marked (cs o.clean).here) × IsEarlier (cs o.clean).here (cs o.clean).here t
   mark_is Stands is high h = let site = w.sites o.clean within in let r = site.epoch in let x = site.arena in absurd (omega (arith, high, h, few, r, x))

@@ -43,7 +43,7 @@ gives_owned Stands o o' = omega arith
 gives_owned Marks o o' = omega arith
 gives_owned (Loaded c) o o' = omega arith
 
--- the word of a site is no mark
+-- the word of a site is no entering word
 pub site_low : (e : Plan) (c : Site) → e.arenas ≤ arena_limit → IsSite e c → packed c < entering_mark
 site_low e c few h = let r = h.epoch in let a = h.arena in omega (arith, few, r, a)
 
@@ -51,7 +51,7 @@ site_low e c few h = let r = h.epoch in let a = h.arena in omega (arith, few, r,
 pub site_epoch : (e : Plan) (c : Site) → e.arenas ≤ arena_limit → IsSite e c → packed c / arena_limit ≡ c.epoch
 site_epoch e c few h = let a = h.arena in omega (arith, few, a)
 
--- a mark that the owner q holds is its port's word yet, or it has seen an arrival
+-- an entering word that the owner q holds is its port's word yet, or it has seen an arrival
 abbrev pub IsHeld : Plan → List ℕ → Tally → ℕ → OwnedArena → Site → Type 0
 IsHeld e words t q o a = ((o.clean < e.ports) × (slice_index words (at_word o.clean) ≡ marked a)) ⊎ HasSeenArrival t q
 
@@ -70,7 +70,7 @@ module _ (e : Plan) (words : List ℕ) (ports : ℕ → Port) (b : Beside) (w : 
       ∙ subst (IsSiteWord e (control_words e words) q (ports q).control.here) stands (w.control.at q low)
 
   module _ (t : Tally) (s : KeepsTally e words ports t) where
-    -- an owner word is no mark
+    -- an owner word is no entering word
     own_low : (x : ℕ) → x < e.arenas → slice_index words (own_word e x) < entering_mark
     own_low x low = elim (eqb_tells (slice_index words (own_word e x)) 0) [
       | inl none ↦ let is = none.1 in omega (arith, is)
@@ -82,7 +82,7 @@ module _ (e : Plan) (words : List ℕ) (ports : ℕ → Port) (b : Beside) (w : 
           omega (arith, is, inside, few)
     ]
 
-    -- the marks that owners hold are those of ports
+    -- the entering words that owners hold are those of ports
     pub held_within : (q : ℕ) → q < e.ports → IfSome (ports q).control.owned (λ o. IfSome o.mark (IsHeld e words t q o))
     held_within q low = some_to (λ (o : OwnedArena). IfSome o.mark (λ a. (slice_index words (at_word o.clean) ≡ marked a) ⊎ HasSeenArrival t q)) (λ (o : OwnedArena). IfSome o.mark (IsHeld e words t q o))
         (ports q).control.owned (λ o is. some_to (λ a. (slice_index words (at_word o.clean) ≡ marked a) ⊎ HasSeenArrival t q) (IsHeld e words t q o) o.mark (λ a _ h. elim h [

@@ -188,7 +188,7 @@ module _ (e : Plan) (words : List ℕ) (ports : ℕ → Port) (b : Beside) (k : 
         within (having_published (ports k) o) (omega (arith, few))
         (subst (λ (d : Option OwnedArena). gives_at (ports k).control.entering true (Some (resting_arena o)) ≤ gives_at (ports k).control.entering (ports k).control.past d) (sym is) (omega (arith, owned, passed)))
 
-  -- a port stores its mark
+  -- a port stores its entering word
   module _ (stands : (ports k).control.entering ≡ Stands) (past : (ports k).control.past ≡ true) where
     abbrev marks_port : Port
     marks_port = record (ports k) { control = record (ports k).control { entering = Marks } }
@@ -208,7 +208,7 @@ module _ (e : Plan) (words : List ℕ) (ports : ℕ → Port) (b : Beside) (k : 
     word_was : slice_index words (at_word k) ≡ packed here
     word_was = stands_at e words ports b w k below stands
 
-    -- the mark names the arena that the word named
+    -- the entering word names the arena that the word named
     mark_alike : NameAsBefore e words marked_words
     mark_alike q low = elim (eqb_tells q k) [
       | inl same ↦ subst (λ i. slice_index marked_words (at_word i) % arena_limit ≡ slice_index words (at_word i) % arena_limit) (sym same.1)
@@ -240,7 +240,7 @@ module _ (e : Plan) (words : List ℕ) (ports : ℕ → Port) (b : Beside) (k : 
               | inr has ↦ inr has
             ])) (held_within e words ports b w t s q low)
 
-    -- no port weighs more: the one that stores its mark stood in an earlier epoch
+    -- no port weighs more: the one that stores its entering word stood in an earlier epoch
     weights_marked : (q : ℕ) → q < e.ports → weight e marked_words (put k marks_port ports) now (put k now since) t q ≤ weight e words ports now since t q
     weights_marked q low = elim (eqb_tells q k) [
       | inl same ↦ subst (λ i. weight e marked_words (put k marks_port ports) now (put k now since) t i ≤ weight e words ports now since t i) (sym same.1) own_weight

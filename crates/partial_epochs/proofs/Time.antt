@@ -1,11 +1,11 @@
--- An entering port enters no older epoch than the one that was the current one as it stored its mark.
+-- An entering port enters no older epoch than the one that was the current one as it stored its entering word.
 use Rattle.partial_epochs.proofs.{Common.{ℕ, ◌≡◌, ◌≢◌, ◌+◌, ◌%◌, ◌^◌, ◌<◌, ◌≤◌, ◌==◌, ◌⊎◌, Bool, true, false, if◌then◌else◌, Some, None, List, slice_index, slice_set, refl, sym, ap, subst, ◌∙◌, inl, inr, arith, eqb_tells, get_or-set_same, get_or-set_other, some_same, words_after, Step, Load, Store, Exchange, Add, put, IsSite, Site, Plan, at_word, base, control_words, current_word, marked, packed, based_step, set_word, Control, OwnedArena, Port, Marks, Loaded, IsSiteWord, IsEarlier, MayPut, Beside, LawfulEpochs, site_now, arrived_port, having_loaded, having_looked, having_put, owning_port, having_published, next_site, ArrivalsKeepTime, AsidesKeepTime, EntriesKeepTime, IsBesideTime, KeepsTime, LoadedMarksKeepTime, LooksKeepTime, MarksKeepTime, OpeningsKeepTime, PublishesKeepTime, PutsKeepTime, StepsKeepSites}, Entering.{cw_at, current_is, held_mark, marked_epoch, not_marked}, Lists.{put_all, put_other, put_same}, Offsets.packed_arena}
 
 -- an arena that a port owns, and none
 none_some : (o : OwnedArena) → None ≡ Some o → ⊥
 none_some o is = cc
 
--- a port that owns no arena, or holds no mark after which it has looked, puts nobody
+-- a port that owns no arena, or holds no entering word after which it has looked, puts nobody
 pub puts_nobody : (c : Control) (j : ℕ) (a : Site) → c.owned ≡ None → MayPut c j a → ⊥
 puts_nobody c j a free may = none_some may.owned (sym free ∙ may.is)
 

@@ -90,7 +90,7 @@ weigh_away n w now since c g low other = ap (λ (m : Bool). if m then (if w / ar
       | inr ne ↦ ap (λ (m : Bool). if m then c else (n + 1) + g) ne.0
     ]
 
--- the weight of a port whose word is marked
+-- the weight of a port whose word has the entering bit
 weigh_mark : (n w now since c g : ℕ) → entering_mark ≤ w → weigh n w now since c g ≡ (if nat_lt since now then 2 * n + 3 else n + 1)
 weigh_mark n w now since c g high = ap (λ (m : Bool). if m then (if w / arena_limit == now then c else (n + 1) + g) else (if nat_lt since now then 2 * n + 3 else n + 1)) (le-ltb w entering_mark high)
 
@@ -99,15 +99,15 @@ pub weigh_marked : (n w now since c g : ℕ) → entering_mark ≤ w → n + 1 �
 weigh_marked n w now since c g high = subst (λ m. n + 1 ≤ m) (sym (weigh_mark n w now since c g high))
     (pick (λ m. n + 1 ≤ m) (nat_lt since now) (2 * n + 3) (n + 1) (λ _. omega arith) (λ _. omega arith))
 
--- the mark was stored in an earlier epoch
+-- the entering word was stored in an earlier epoch
 pub weigh_since : (n w now since c g : ℕ) → entering_mark ≤ w → since < now → weigh n w now since c g ≡ 2 * n + 3
 weigh_since n w now since c g high less = weigh_mark n w now since c g high ∙ ap (λ (m : Bool). if m then 2 * n + 3 else n + 1) (lt-ltb since now less)
 
--- the mark was stored in the current epoch
+-- the entering word was stored in the current epoch
 pub weigh_not_since : (n w now since c g : ℕ) → entering_mark ≤ w → now ≤ since → weigh n w now since c g ≡ n + 1
 weigh_not_since n w now since c g high from = weigh_mark n w now since c g high ∙ ap (λ (m : Bool). if m then 2 * n + 3 else n + 1) (le-ltb since now from)
 
--- an arrival, at a site no older than the mark, takes n from the weight of the port that arrives
+-- an arrival, at a site no older than the entering word, takes n from the weight of the port that arrives
 pub weigh_arrived : (n w w' epoch now since c g c' g' : ℕ) → entering_mark ≤ w → w' < entering_mark → w' / arena_limit ≡ epoch → since ≤ epoch → epoch ≤ now →
     c' ≤ 1 → g' ≤ 2 → weigh n w' now since c' g' + n ≤ weigh n w now since c g
 weigh_arrived n w w' epoch now since c g c' g' high low is late old few most = elim (eqb_tells (w' / arena_limit) now) [

@@ -4,11 +4,11 @@ use Rattle.partial_epochs.specs.Layout.{Plan, Site, packed, marked, IsSite, curr
 use Rattle.partial_epochs.specs.Ports.{Entering, OwnedArena, Control}
 use Rattle.partial_epochs.specs.Ports.Entering.{Stands, Marks, Loaded}
 
--- port k is entering, and the word where it stands is still marked
+-- port k is entering, and its word is still its entering word
 abbrev pub IsStillMarked : List ℕ → Control → ℕ → Type 0
 IsStillMarked words c k = slice_index words (at_word k) ≡ marked c.here
 
--- the word where a port stands: while it is entering it is its mark, or a later site that another port has put
+-- the word where a port stands: while it is entering it is its entering word, or a later site that another port has put
 abbrev pub IsSiteWord : Plan → List ℕ → ℕ → Site → Entering → Type 0
 IsSiteWord e words k here Stands = slice_index words (at_word k) ≡ packed here
 IsSiteWord e words k here _ = (slice_index words (at_word k) ≡ marked here)
@@ -20,8 +20,8 @@ IsOld e now here Stands = here.epoch ≤ now
 IsOld e now here Marks = here.epoch < now
 IsOld e now here (Loaded c) = (here.epoch < c.epoch) × (c.epoch ≤ now) × IsSite e c
 
--- a mark of a port that another port has loaded: it is of an earlier epoch than the one where that port stands, or no later than the
--- one from which it is entering
+-- An entering word of a port that another port has loaded: it is of an earlier epoch than the one where that port stands, or no
+-- later than the one from which it is entering
 abbrev pub IsEarlier : Site → Site → Entering → Type 0
 IsEarlier a here Stands = a.epoch < here.epoch
 IsEarlier a here _ = a.epoch ≤ here.epoch
@@ -31,23 +31,23 @@ abbrev pub NotInto : ℕ → Entering → Type 0
 NotInto x (Loaded c) = c.arena ≢ x
 NotInto x _ = ⊤
 
--- port q may put port k, whose mark it has loaded: it has seen since that its own epoch is the current one
+-- port q may put port k, whose entering word it has loaded: it has seen since that its own epoch is the current one
 pub record MayPut (q : Control) (k : ℕ) (a : Site) : Type 0 where
   -- it owns an arena
   pub owned : OwnedArena
   pub is : q.owned ≡ Some owned
   -- k is the port that it looks at next
   pub port : owned.clean ≡ k
-  -- it holds that mark of k
+  -- it holds that entering word of k
   pub mark : owned.mark ≡ Some a
-  -- it has looked at the current word since it loaded the mark
+  -- it has looked at the current word since it loaded the entering word
   pub again : owned.again ≡ true
 
 -- port k is out of the arena x, and doesn't come into it
 pub record IsOut (e : Plan) (words : List ℕ) (cs : ℕ → Control) (x k : ℕ) : Type 0 where
   -- its word names no site in that arena
   pub unmarked : (c : Site) → IsSite e c → slice_index words (at_word k) ≡ packed c → c.arena ≢ x
-  -- it hasn't loaded such a site, or its exchange of the mark will be lost
+  -- it hasn't loaded such a site, or its exchange of the entering word will be lost
   pub loaded : IsStillMarked words (cs k) k → NotInto x (cs k).entering
   -- no port that may put it stands in that arena
   pub put : (q : ℕ) (a : Site) → q < e.ports → MayPut (cs q) k a → slice_index words (at_word k) ≡ marked a →
@@ -72,9 +72,9 @@ pub record IsOwner (e : Plan) (words : List ℕ) (cs : ℕ → Control) (now : S
   pub few : w.clean ≤ e.ports
   -- each port with which it is done is out of the arena, but for itself
   pub out : (q : ℕ) → q < w.clean → q < e.ports → q ≢ k → IsOut e words cs w.arena q
-  -- a mark that it holds, and has looked since, is of an epoch before its own
+  -- an entering word that it holds, and has looked since, is of an epoch before its own
   pub older : w.again ≡ true → IfSome w.mark (λ a. a.epoch < (cs k).here.epoch)
-  -- a mark that it holds never comes back, once its port has stored a later one
+  -- an entering word that it holds never comes back, once its port has stored a later one
   pub held : IfSome w.mark (λ a. IsSite e a × IsEarlier a (cs w.clean).here (cs w.clean).entering)
   -- it sets words of the arena only once it is done with all ports
   pub all : 0 < w.set → w.clean ≡ e.ports
@@ -96,7 +96,7 @@ pub record LawfulControl (e : Plan) (words : List ℕ) (cs : ℕ → Control) (n
   pub within : (x g : ℕ) → holds x ≡ Some g → x < e.arenas
   -- where a port stands, or from where it is entering, fits a word
   pub sites : (k : ℕ) → k < e.ports → IsSite e (cs k).here
-  -- a port's word names where it stands; while it is entering, its mark or a later site where another port put it
+  -- a port's word names where it stands; while it is entering, its entering word or a later site where another port put it
   pub at : (k : ℕ) → k < e.ports → IsSiteWord e words k (cs k).here (cs k).entering
   -- a port stands in no later epoch than the current one, and enters only from an earlier one
   pub old : (k : ℕ) → k < e.ports → IsOld e now.epoch (cs k).here (cs k).entering

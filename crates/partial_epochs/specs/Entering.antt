@@ -1,4 +1,4 @@
--- A port enters the current epoch: it looks, stores its mark, loads the current site, and exchanges its mark.
+-- A port enters the current epoch: it looks, stores its entering word, loads the current site, and exchanges that word.
 use Rattle.std.specs.Prelude.{ℕ, ◌<◌, List, slice_index, length, ◌≡◌, ◌≢◌, ◌⊎◌, true, None, false}
 use Rattle.partial_words.specs.declared.step.Step.TheVariants.{Store, Exchange}
 use Rattle.partial_model.specs.declared.history.Applied.{Applied}
@@ -22,7 +22,7 @@ LooksAreTrue = (e : Plan) (words : List ℕ) (ports : ℕ → Port) (b : Beside)
     ⊎ ((slice_index words current_word ≢ packed (ports k).control.here)
     × LawfulEpochs e words (put k (having_passed (ports k)) ports) b)
 
--- the first step of entering: a port whose epoch has passed, and that owns no arena, stores its mark
+-- the first step of entering: a port whose epoch has passed, and that owns no arena, stores its entering word
 abbrev pub MarksStayLawful : Type 0
 MarksStayLawful = (e : Plan) (words : List ℕ) (ports : ℕ → Port) (b : Beside) (k : ℕ) → LawfulEpochs e words ports b → k < e.ports →
     (ports k).control.entering ≡ Stands → (ports k).control.past ≡ true → (ports k).control.owned ≡ None →
@@ -46,8 +46,8 @@ arrived_port e k c before = record {
   before = before;
 }
 
--- The third: the exchange of the mark. The port enters the site that it has loaded where the exchange is won, and else to the one that
--- another port has put.
+-- The third: the exchange of the entering word. The port enters the site that it has loaded when the exchange is won, and else the one
+-- that another port has put.
 pub record Arrives (e : Plan) (words : List ℕ) (ports : ℕ → Port) (b : Beside) (k : ℕ) (c : Site) : Type 0 where
   pub site : Site
   pub is : ((slice_index words (at_word k) ≡ marked (ports k).control.here) × (site ≡ c)) ⊎ (slice_index words (at_word k) ≡ packed site)

@@ -43,7 +43,7 @@ pub data Move : Type 0 where
   -- the won exchange of an owner word, and the store that gives the arena back
   Takes : ℕ → Move
   Gives : OwnedArena → Move
-  -- an owner finds the next port elsewhere, loads its mark, or puts it where it stands itself
+  -- an owner finds the next port elsewhere, loads its entering word, or puts it where it stands itself
   FindsElsewhere : OwnedArena → Site → Move
   LoadsMark : OwnedArena → Move
   Puts : OwnedArena → Site → Move
@@ -151,7 +151,7 @@ abbrev pub IsSiteAfter : Move → Site → Site → Type 0
 IsSiteAfter (ExchangesMark c) here there = here.epoch < there.epoch
 IsSiteAfter _ here there = there ≡ here
 
--- for each port the number of the epoch that was the current one as it stored its last entering mark, after the move
+-- for each port the number of the epoch that was the current one as it stored its last entering word, after the move
 abbrev pub since_after : Beside → ℕ → Move → (ℕ → ℕ) → ℕ → ℕ
 since_after b k StoresMark since = put k (length b.before) since
 since_after b k _ since = since
@@ -164,7 +164,7 @@ Becomes e words ports b k (Makes c step notes) p there added =
     × (moved_words e words (ports k) k (Makes c step notes) ≡ words) × (p ≡ ports k) × (there ≡ b) × (added ≡ []))
     ⊎ ((lead : MachineLeads e words ports b k c step) × (p ≡ lead.port) × (there ≡ lead.beside)
     × (added ≡ noted_after e (ports k) notes lead.tells.new))
--- the port enters a site that is no older than the epoch that was the current one as it stored its mark, with a new part there
+-- the port enters a site that is no older than the epoch that was the current one as it stored its entering word, with a new part there
 Becomes e words ports b k (ExchangesMark c) p there added =
     (a : Arrives e words ports b k c) × (p ≡ arrived_port e k a.site a.before) × (there ≡ b) × (added ≡ [])
     × ((since : ℕ → ℕ) → KeepsTime e words ports (site_now b) since → since k ≤ a.site.epoch)

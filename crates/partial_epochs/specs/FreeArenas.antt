@@ -27,7 +27,7 @@ pub record Tally : Type 0 where
 abbrev pub first_tally : Tally
 first_tally = record { arrivals = 0; freed = 0; taken = λ _. 0; met = λ _. false }
 
--- the word of a port names arena x, marked or not
+-- the word of a port names arena x, with the entering bit or without it
 pub record IsNamed (e : Plan) (words : List ℕ) (x : ℕ) : Type 0 where
   pub port : ℕ
   pub inside : port < e.ports
@@ -63,7 +63,7 @@ pub record KeepsTally (e : Plan) (words : List ℕ) (ports : ℕ → Port) (t : 
   pub owners : (x : ℕ) → x < e.arenas → slice_index words (own_word e x) ≢ 0 → IsOwnedBySome e words ports x
   -- no arena was taken after more arrivals than there have been
   pub taken : (k : ℕ) → k < e.ports → t.taken k ≤ t.arrivals
-  -- a mark that an owner holds is still its port's word, unless a port has moved to another site since
+  -- an entering word that an owner holds is still its port's word, unless a port has moved to another site since
   pub marks : (k : ℕ) → k < e.ports → IfSome (ports k).control.owned (λ o. IfSome o.mark (λ a.
       (slice_index words (at_word o.clean) ≡ marked a) ⊎ HasSeenArrival t k))
   -- a port that has met another one did so for a cause
@@ -81,6 +81,7 @@ gives_at Stands false None = 1
 gives_at Stands false (Some o) = if o.looked then 2 else 1
 gives_at _ past owned = 1
 
+-- the same of a port by its control
 abbrev pub gives_left : Control → ℕ
 gives_left c = gives_at c.entering c.past c.owned
 
@@ -111,6 +112,7 @@ may_free e words ports now since t = sum_below (weight e words ports now since t
 abbrev pub most_freed : ℕ → ℕ
 most_freed ports = ports * (2 * ports + 3)
 
+-- arenas may come free at most that number of times, in any state
 abbrev pub FewComeFree : Type 0
 FewComeFree = (e : Plan) (words : List ℕ) (ports : ℕ → Port) (now : ℕ) (since : ℕ → ℕ) (t : Tally) →
     may_free e words ports now since t ≤ most_freed e.ports
@@ -154,7 +156,7 @@ EveryStepCounts = (e : Plan) (words : List ℕ) (ports : ℕ → Port) (b : Besi
     Counts e words (moved_words e words (ports k) k m) ports (put k l.port ports) (site_now b) (site_now l.beside) since
     (since_after b k m since) t k m
 
--- an owner that has looked has met another port when it finds its arena named, or another word than the mark that it holds
+-- an owner that has looked has met another port when it finds its arena named, or another word than the one that it holds
 abbrev pub MeetingsKeepTally : Type 0
 MeetingsKeepTally = (e : Plan) (words : List ℕ) (ports : ℕ → Port) (t : Tally) (k : ℕ) (o : OwnedArena) →
     KeepsTally e words ports t → (ports k).control.owned ≡ Some o → o.looked ≡ true →

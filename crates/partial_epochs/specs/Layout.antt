@@ -37,7 +37,7 @@ arena_limit = 65536
 abbrev pub epoch_limit : ℕ
 epoch_limit = 2199023255552
 
--- the entering mark: the highest bit of a word
+-- the entering bit: the highest bit of a word
 abbrev pub entering_mark : ℕ
 entering_mark = 9223372036854775808
 
@@ -49,11 +49,11 @@ packed p = p.epoch * arena_limit + p.arena
 abbrev pub unpacked : ℕ → Site
 unpacked w = record { epoch = w / arena_limit; arena = w % arena_limit }
 
--- the word of a site with the entering mark: its port is entering from there
+-- an entering word: the word of a site with the entering bit, whose port is entering from there
 abbrev pub marked : Site → ℕ
 marked p = entering_mark + packed p
 
--- the site fits a word, beside the mark
+-- the site fits a word, beside the entering bit
 pub record IsSite (e : Plan) (p : Site) : Type 0 where
   pub epoch : p.epoch < epoch_limit
   pub arena : p.arena < e.arenas

@@ -28,8 +28,8 @@ at_next_port o = record o { clean = o.clean + 1; mark = None; again = false }
 abbrev pub having_put : Port → OwnedArena → Port
 having_put p o = record p { control = record p.control { owned = Some (at_next_port o) } }
 
--- A port that has loaded the mark of another, and has seen since that its own epoch is the current one, puts that port where it stands
--- itself, and is done with it: where the exchange of the mark is won.
+-- A port that has loaded the entering word of another, and has seen since that its own epoch is the current one, puts that port where
+-- it stands itself, and is done with it, when the exchange of that word is won.
 abbrev pub PutsStayLawful : Type 0
 PutsStayLawful = (e : Plan) (words : List ℕ) (ports : ℕ → Port) (b : Beside) (k : ℕ) (o : OwnedArena) (a : Site) →
     LawfulEpochs e words ports b → k < e.ports → (ports k).control.owned ≡ Some o → o.looked ≡ true → o.clean < e.ports → o.set ≡ 0 →
@@ -69,11 +69,11 @@ OthersAreElsewhere = (e : Plan) (words : List ℕ) (ports : ℕ → Port) (b : B
     o.clean < e.ports → IsSite e d → slice_index words (at_word o.clean) ≡ packed d → d.arena ≢ o.arena →
     LawfulEpochs e words (put k (having_put (ports k) o) ports) b
 
--- an owner that holds the mark of the next port, and hasn't looked since
+-- an owner that holds the entering word of the next port, and hasn't looked since
 abbrev pub having_loaded : OwnedArena → Site → OwnedArena
 having_loaded o a = record o { mark = Some a; again = false }
 
--- an owner loads the entering mark of the next port: it is the mark of where that port is entering from
+-- an owner loads the entering word of the next port: it is that of the site which that port is entering from
 abbrev pub MarksAreLoaded : Type 0
 MarksAreLoaded = (e : Plan) (words : List ℕ) (ports : ℕ → Port) (b : Beside) (k : ℕ) (o : OwnedArena) → LawfulEpochs e words ports b →
     k < e.ports → (ports k).control.owned ≡ Some o → o.clean < e.ports → entering_mark ≤ slice_index words (at_word o.clean) →

@@ -4,7 +4,7 @@ use Rattle.partial_model.specs.declared.history.Applied.{Applied}
 use Rattle.partial_core.specs.Part.{Part}
 use Rattle.partial_epochs.specs.Layout.{Site}
 
--- whether a port is entering: it stands, it has stored the mark, or it has loaded the current site since
+-- whether a port is entering: it stands, it has stored the entering word, or it has loaded the current site since
 pub data Entering : Type 0 where
   Stands : Entering
   Marks : Entering
@@ -17,7 +17,7 @@ pub record OwnedArena : Type 0 where
   pub looked : Bool
   -- it is done with the ports below this one
   pub clean : ℕ
-  -- the mark of port `clean` that it has loaded, and whether it has seen since that its epoch is the current one
+  -- the entering word of port `clean` that it has loaded, and whether it has seen since that its epoch is the current one
   pub mark : Option Site
   pub again : Bool
   -- how many words it has set

@@ -1,4 +1,4 @@
--- Real time: an entering port enters an epoch that is no older than the one that was the current one as it stored its mark.
+-- Real time: an entering port enters an epoch that is no older than the one that was the current one as it stored its entering word.
 use Rattle.std.specs.Prelude.{ℕ, ◌<◌, ◌≤◌, List, slice_index, ◌≡◌, true, Some, None}
 use Rattle.partial_words.specs.Step.{words_after}
 use Rattle.partial_words.specs.declared.step.Step.{Step}
@@ -15,7 +15,7 @@ use Rattle.partial_epochs.specs.Publishing.{having_published, next_site}
 use Rattle.partial_epochs.specs.Opening.{first_site, first_ports}
 
 -- Each port stands in no older epoch, and enters no older one, than the one that was the current one as it stored its last entering
--- mark: `since` has the number of that epoch for each port, and `now` is the current site.
+-- word: `since` has the number of that epoch for each port, and `now` is the current site.
 pub record KeepsTime (e : Plan) (words : List ℕ) (ports : ℕ → Port) (now : Site) (since : ℕ → ℕ) : Type 0 where
   -- that epoch is no later than the current one
   pub past : (k : ℕ) → k < e.ports → since k ≤ now.epoch
@@ -31,7 +31,7 @@ pub record KeepsTime (e : Plan) (words : List ℕ) (ports : ℕ → Port) (now :
 abbrev pub OpeningsKeepTime : Type 0
 OpeningsKeepTime = (e : Plan) (words : List ℕ) → KeepsTime e words (first_ports e) first_site (λ _. 0)
 
--- a port that stores its mark enters from then on
+-- a port that stores its entering word enters from then on
 abbrev pub MarksKeepTime : Type 0
 MarksKeepTime = (e : Plan) (words : List ℕ) (ports : ℕ → Port) (b : Beside) (k : ℕ) (since : ℕ → ℕ) →
     LawfulEpochs e words ports b → k < e.ports → (ports k).control.entering ≡ Stands → (ports k).control.owned ≡ None →
@@ -47,7 +47,7 @@ EntriesKeepTime = (e : Plan) (words : List ℕ) (ports : ℕ → Port) (b : Besi
     KeepsTime e words (put k (record (ports k) { control = record (ports k).control { entering = Loaded (site_now b) } }) ports)
     (site_now b) since
 
--- it enters an epoch that is no older than the one that was the current one as it stored its mark
+-- it enters an epoch that is no older than the one that was the current one as it stored its entering word
 abbrev pub ArrivalsKeepTime : Type 0
 ArrivalsKeepTime = (e : Plan) (words : List ℕ) (ports : ℕ → Port) (b : Beside) (k : ℕ) (c : Site) (since : ℕ → ℕ) →
     LawfulEpochs e words ports b → k < e.ports → (ports k).control.entering ≡ Loaded c →
@@ -63,7 +63,7 @@ LooksKeepTime = (e : Plan) (words : List ℕ) (ports : ℕ → Port) (b : Beside
     KeepsTime e words ports (site_now b) since →
     KeepsTime e words (put k (having_looked (ports k) o) ports) (site_now b) since
 
--- an owner loads a mark
+-- an owner loads an entering word
 abbrev pub LoadedMarksKeepTime : Type 0
 LoadedMarksKeepTime = (e : Plan) (words : List ℕ) (ports : ℕ → Port) (now a : Site) (k : ℕ) (o : OwnedArena) (since : ℕ → ℕ) →
     k < e.ports → KeepsTime e words ports now since → KeepsTime e words (put k (owning_port (ports k) (having_loaded o a)) ports) now since

@@ -66,7 +66,7 @@ pub fn looks_are_true()
 {}
 
 /// The first step of entering keeps the memory lawful: a port that knows that its epoch has ended stores its site with
-/// the entering mark.
+/// the entering bit.
 pub fn marks_stay_lawful()
     ensures { MarksStayLawful }
 {}
@@ -76,8 +76,8 @@ pub fn entries_load()
     ensures { EntriesLoad }
 {}
 
-/// The third step of entering exchanges the mark. The port then stands in the site that it loaded, or in a later one
-/// that another port has put there, and the memory is lawful.
+/// The third step of entering exchanges the entering word. The port then stands in the site that it loaded, or in a
+/// later one that another port has put there, and the memory is lawful.
 pub fn arrivals_stay_lawful()
     ensures { ArrivalsStayLawful }
 {}
@@ -109,13 +109,13 @@ pub fn others_are_elsewhere()
     ensures { OthersAreElsewhere }
 {}
 
-/// An owner that loads a port's word with the entering mark may hold that mark. The memory stays lawful.
+/// An owner that loads a port's word with the entering bit may hold that word. The memory stays lawful.
 pub fn marks_are_loaded()
     ensures { MarksAreLoaded }
 {}
 
-/// An owner that holds the mark of an entering port, and has since seen that its own epoch is the current one, may put
-/// that port where it stands itself. Where its exchange of the mark is won, the memory stays lawful.
+/// An owner that holds the entering word of a port, and has since seen that its own epoch is the current one, may put
+/// that port where it stands itself. When its exchange of that word is won, the memory stays lawful.
 pub fn puts_stay_lawful()
     ensures { PutsStayLawful }
 {}
@@ -133,8 +133,8 @@ pub fn clear_slots_count_as_set()
     ensures { ClearSlotsCountAsSet }
 {}
 
-/// The exchange of the current word, by an owner that has set its whole arena, opens the next epoch where it is won, and
-/// changes nothing where it is lost. Either way the memory is lawful.
+/// The exchange of the current word, by an owner that has set its whole arena, opens the next epoch when it is won, and
+/// changes nothing when it is lost. Either way the memory is lawful.
 pub fn publishes_stay_lawful()
     ensures { PublishesStayLawful }
 {}
@@ -249,17 +249,17 @@ pub fn entries_keep_time()
 {}
 
 /// The third step of entering keeps time: the port enters an epoch that is no older than the one that was the current
-/// one as it stored its mark, whether it loaded that site itself or another port put it there.
+/// one as it stored its entering word, whether it loaded that site itself or another port put it there.
 pub fn arrivals_keep_time()
     ensures { ArrivalsKeepTime }
 {}
 
-/// An owner that loads its own site as the current one keeps time: it may put a port there whose mark it holds.
+/// An owner that loads its own site as the current one keeps time: it may put a port there whose entering word it holds.
 pub fn looks_keep_time()
     ensures { LooksKeepTime }
 {}
 
-/// An owner that loads an entering mark keeps time: it may not put that port before it has looked again.
+/// An owner that loads an entering word keeps time: it may not put that port before it has looked again.
 pub fn loaded_marks_keep_time()
     ensures { LoadedMarksKeepTime }
 {}

@@ -110,7 +110,7 @@ module _ (list : Ranges) (normal : IsNormal list) (l : ℕ) (small : l < 4294967
     | inr other ↦ ends_apart j (omega arith)
   ]
 
-  -- and the same behind l
+  -- and the same after l
   begin_apart : ((count < length list) × (l + 1 ≡ lowest list count) → ⊥) → (k : ℕ) → count ≤ k → k < length list → l + 1 < lowest list k
   begin_apart apart k le inside = elim (cases_eq k count) [
     | inl here ↦ elim (cases_eq (l + 1) (lowest list count)) [

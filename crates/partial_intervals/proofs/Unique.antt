@@ -16,7 +16,7 @@ first_low r a x w (suc k, within, low, high) =
     let apart = w.apart 0 (suc k) (omega arith) within in
     omega (arith, closed, apart, low)
 
--- the number behind the first interval is not held
+-- the number after the first interval is not held
 behind_first : (r : ℕ × ℕ) (a : Ranges) (x : ℕ) → IsNormal (r ∷ a) → x ≡ r.1 + 1 → Holds (r ∷ a) x → ⊥
 behind_first r a x w e (zero, within, low, high) = omega (arith, e, high)
 behind_first r a x w e (suc k, within, low, high) = let apart = w.apart 0 (suc k) (omega arith) within in omega (arith, e, apart, low)

@@ -30,7 +30,7 @@ last_there : (log : List Applied) (k : ℕ) (e : Applied) → slice_get log k �
 last_there log k e stands = let next : k + 1 ≡ suc k = omega arith in ap (last_entry e.component) (ap (λ n. take n log) next ∙ take_one log k e stands) ∙ last_from-push None e.component
     (take k log) e ∙ ap (λ b. if b then Some e else last_entry e.component (take k log)) (eq-eqb e.component e.component refl)
 
--- behind an entry for the component, its stamp is that of an entry at that place or later
+-- after an entry for the component, its stamp is that of an entry at that place or later
 pub entry_since : (o : Opening) (log : List Applied) (j low b : ℕ) → HasEntry log low b j → IsBegunSince log low (stamp_of o (take b log) j)
 entry_since o log j low b has =
     let k = has.0 in
@@ -88,7 +88,7 @@ pub begun_since : (o : Opening) (words : List ℕ) (log : List Applied) (low k :
     HasEntry log low k e.component → IsBegunSince log low (prev_of words e.stamp)
 begun_since o words log low k e agrees below stands has = subst (IsBegunSince log low) (sym (prev_before_entry o words log k e agrees below stands)) (entry_since o log e.component low k has)
 
--- the blocks of the entries are apart from those behind them
+-- the blocks of the entries are apart from those after them
 entry_blocks : (f : Applied → Block) (log : List Applied) (rest : List Block) → EachTwo AreApart (map f log ++ rest) → AllByRecursion (λ e. AllByRecursion (AreApart (f e)) rest) log
 entry_blocks f [] rest w = tt
 entry_blocks f (e ∷ log) rest w = (all_back (AreApart (f e)) (map f log) rest w.0, entry_blocks f log rest w.1)

@@ -1,4 +1,4 @@
--- What lawful words tell of a port that is joined.
+-- What lawful words say of a port that is joined.
 use Rattle.partial_knowledge.proofs.Common.{ℕ, ◌≡◌, ◌<◌, List, slice_index, Option, Some, IfSome, subst, arith, AllByRecursion, Applied, Opening, Layout, slot_word, slot_counter, JoinedAnnouncement, IsAnnounced, ClaimedSlot, Holding, IfJoined, unpublished, LawfulWords, IsClaim, Joins, AllByRecursion-get}
 
 -- what holds of each announcement holds of this one

@@ -33,7 +33,7 @@ view_readable z words hs at i pairs view lt =
       },
     )
 
--- what a position's load tells where it differs from the latest one
+-- what a position's load shows where it differs from the latest one
 differs_tells : (p : ViewPair) (k x : ℕ) → differs p k x ≡ true → (is_first p ≡ false) × (slice_index p.1.last k ≢ x)
 differs_tells p k x d =
     let both = and_parts (not (is_first p)) (not (slice_index p.1.last k == x)) d in

@@ -94,7 +94,7 @@ module _ (o : Opening) (words : List ℕ) (hs : List Holding) (log : List Applie
       by_answer (inr (inl vacated)) = inr (inl (vacated.0, (within, vacated.1)))
       by_answer (inr (inr there)) = inr (inr (there.0, (there.1, here)))
 
-  -- what a kept answer tells, where that of the slot counter and of a claim is a possible one
+  -- what a kept answer shows, where that of the slot counter and of a claim is a possible one
   told_at : (stage : Stage) (k : KeptAnswer) → set_goes_at stage p → knows_by Here stage p → IsSome (set_step_at p.0.sizes p.0.head stage) → IsLoadAt stage k →
       ((stage ≡ Counter) ⊎ ((count : ℕ) × (stage ≡ Claim count)) → is_possible_at stage p k.answer) → tells_at words Here stage p k.answer
   told_at Head k goes knows due f possible = (f (list_head p.0.sizes) refl).1.head refl

@@ -137,7 +137,7 @@ pub at_found : (s : CoreState) (t : Stage) → IsSound s → s.stage ≡ t → I
 at_found s (Viewing c old) w e at = let h = subst (is_sound_at s) e w.stage in (record { together = h.1; sizes = h.2; stage = h.3 }, refl)
 at_found s _ w e at = absurd at
 
--- where it is finished, the call has come to the stage behind it
+-- where it is finished, the call has reached the stage after it
 pub scan_over : (s : CoreState) (t : Stage) → s.stage ≡ t → IsScanStage s t → s.embedded.stage ≡ Done → s.stage ≡ behind_scan s.stage
 scan_over s Leaving e w done = e ∙ sym (ap behind_scan e)
 scan_over s (ClaimingRecord c old) e w done = e ∙ sym (ap behind_scan e)

@@ -1,4 +1,4 @@
--- The machine that a port keeps behind a call: with the marks of the call's machine, and sound.
+-- The machine that a port keeps after a call: with the marks of the call's machine, and sound.
 use Rattle.partial_lines.proofs.Common.{◌≡◌, Bool, refl, sym, ap, subst, ◌∙◌, nat_eq, Layout, Stage, Idle, CoreState, at_stage, AreComponentIndices, IsSound, is_sound_at, IsMarkedLike, RestsLike}
 use Rattle.partial_words.specs.declared.block.Block.{Block}
 use Rattle.partial_machine.specs.Sound.{IsInPool}
@@ -15,7 +15,7 @@ rests_there c core known is = record {
   sound = subst IsSound (sym is) (rests_are_sound.idle c known);
 }
 
--- it goes on with the machine before an update, but for the marks and what the machine m behind the getSet had found
+-- it goes on with the machine before an update, but for the marks and what the machine m after the getSet had found
 pub update_rests : (s m c core : CoreState) (p : Bool) (g : GetSetState) (f : Buffers) (b : Block) → IsSound s → s.stage ≡ Idle → IsSound m → m.sizes ≡ s.sizes → m.found ≡ f → IsMarkedLike c core → core.ahead ≡ c.ahead →
     IsInPool core.sizes core.spare.at core.spare.size → core ≡ record s { pool_spent = p; get_set = g; found = f; spare = b } → RestsLike c core
 update_rests s m c core p g f b sound idle known sizes found like ahead within is = record {

@@ -56,7 +56,7 @@ taken_quiet i n = record { part = λ p. by_part p (n == 0); before = λ p. by_be
     by_passed p true = omega arith
     by_passed p false = omega arith
 
--- the unmarked word of a port names a site
+-- the word of a port without the entering bit names a site
 module _ (e : Plan) (words : List ℕ) (ports : ℕ → Port) (b : Beside) (w : LawfulEpochs e words ports b) (q : ℕ) (low : q < e.ports) where
   word_is : slice_index (control_words e words) (at_word q) ≡ slice_index words (at_word q)
   word_is = at_of (λ i. slice_index words i) 0 (control_size e) (at_word q) (omega (arith, low)) ∙ ap (λ i. slice_index words i) (omega arith)
@@ -100,7 +100,7 @@ module _ (a : About) (words : List ℕ) (ports : ℕ → Port) (notes : ℕ → 
       meets_another a words words' ports notes b reckoned k below g (owning_port (ports k) o) u search (still_owns words' same).to o refl looked
       (inl (subst (λ (l : List ℕ). IsNamed (plan_of a) l o.arena) same (record { port = o.clean; inside = more; names = there })))
 
-  -- it finds another word than the mark that it holds
+  -- it finds another word than the entering word that it holds
   pub finds_another : (m : Site) → o.mark ≡ Some m → slice_index words (at_word o.clean) ≢ marked m → (words' : List ℕ) → words ≡ words' → Owns words' o (meeting u)
   finds_another m mark other words' same =
       let to = (still_owns words' same).to in
@@ -260,7 +260,7 @@ module _ {S : Type 0} (a : About) (slots id : ℕ) (me : Me S (List SeatedPort))
       ]))
       (λ n. refl)
 
-  -- the exchange of its mark
+  -- the exchange of its entering word
   pub may_put : (o : OwnedArena) (m : Site) → x.port.control.owned ≡ Some o → o.looked ≡ true → o.set ≡ 0 → o.clean < a.ports → o.mark ≡ Some m → o.again ≡ true →
       Allows (IsRuleKept a) slots id me (at_word o.clean) (λ n. either (n == marked m) (packed x.port.control.here) n) (tells (PutsPort o m) me)
   may_put o m owned looked none more mark again = quietly_searching a slots id me one own known (at_word o.clean) (λ n. either (n == marked m) (packed x.port.control.here) n)

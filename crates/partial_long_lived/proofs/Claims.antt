@@ -98,7 +98,7 @@ unawaited s x = by s.stage refl
     by Leaving is b h = refl
     by (Finished r) is b h = ap (awaits_at s) is
 
--- where a record lies that has words: it has just come to have them, or had them before
+-- where a record lies that has words: it has just got them, or had them before
 pub claimed_from : (s : CoreState) (x at : ℕ) → record_claim (advance s x).stage ≡ Some at → ((c : Change) × (old : ℕ) × (s.stage ≡ ClaimingRecord c old)) ⊎ (record_claim s.stage ≡ Some at)
 claimed_from s x at = by s.stage refl
   where

@@ -37,7 +37,7 @@ looked_quiet a = record {
     by_passed p true (Some o) = omega arith
     by_passed p false o = omega arith
 
--- a port may look that owns no arena, or that owns one and has either no mark or ports left to find
+-- a port may look that owns no arena, or that owns one and has either no entering word or ports left to find
 abbrev pub MayLook : About → Port → Type 0
 MayLook a p = (p.control.entering ≡ Stands) × IfSome p.control.owned (λ o. (o.mark ≡ None) ⊎ (o.clean < a.ports))
 

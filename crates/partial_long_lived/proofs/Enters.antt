@@ -1,4 +1,4 @@
--- The exchange of the entering mark is allowed.
+-- The exchange of the entering word is allowed.
 use Rattle.partial_long_lived.proofs.{Common.{ℕ, ◌≡◌, ◌<◌, ◌≤◌, ◌==◌, ◌++◌, if◌then◌else◌, None, List, [], ◌∷◌, length, slice_index, slice_set, refl, sym, ap, subst, ◌∙◌, inl, inr, arith, append-nil, append_assoc, eqb_tells, either, Me, Allows, Applied, LegalNotes, Noted, put, IsSite, Site, Plan, at_word, marked, packed, history_of, public_log, Entering, Port, Loaded, arrived_port, Beside, LawfulEpochs, site_now, Reckons, Reckoning, LawfulMemory, EpochReached, not_marked, put_other, put_same, history_grows, history_longer, About, IsRuleKept, IsSeat, IsSeen, IsSince, SeatedPort, one_of, plan_of, seen_in, BeginsWith, IsSeatKnown, IsOne, tells, SeatArrives, site_found, unpacked, ends, every_step_stays_lawful, unpacked_is}, Seen.legal_begins, Kept.{Moved, allowed, none_grown, not_grown}, Control.{led_to, reckoned_after, unnoted}, Changes.either_cond}
 use Rattle.partial_epochs.specs.EveryStep.{Move as move}
 use Rattle.partial_epochs.specs.Entering as law

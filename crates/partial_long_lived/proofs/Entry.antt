@@ -2,7 +2,7 @@
 use Rattle.partial_long_lived.proofs.{Common.{ℕ, ◌≡◌, ◌+◌, ◌==◌, List, sym, ap, subst, ◌∙◌, arith, either, Me, Allows, TableId, at_word, marked, packed, About, Stand, IsRuleKept, SeatedPort, one_of, tells, IsHeld, port_at, SeatArrives, LoadsCurrent, StoresMark, unpacked, MayEnter}, Control.{may_load, may_mark}, Enters.may_arrive, Standing.site_is}
 
 module _ (table : TableId) (about : About) (s : Stand) (h : IsHeld table about s) where
-  -- the mark that is stored
+  -- the entering word that is stored
   mark_is : (mark : ℕ) → mark ≡ packed (record { epoch = s.epoch; arena = s.arena }) → 9223372036854775808 + mark ≡ marked (port_at s).port.control.here
   mark_is mark is = let site = site_is table about s h in omega (arith, is, site)
 

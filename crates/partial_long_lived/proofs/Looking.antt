@@ -119,7 +119,7 @@ taken_works s t b y taken w here =
       set = refl;
     }
 
--- and the look once it has loaded a mark
+-- and the look once it has loaded an entering word
 pub marked_puts : (s t : Stand) (b : Bool) (y q a : ℕ) → HoldsMark s y q a → LookFound false s b t → b ≡ true → MayPutPort t y q a
 marked_puts s t b y q a holds w here =
     let is = looked_own false s t b w here holds.owned holds.is in record {

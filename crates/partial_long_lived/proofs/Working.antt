@@ -221,7 +221,7 @@ module _ (s t : Stand) (y q a : ℕ) (w : HasSetWords s y q 0) (told : OfOwned L
             (searches_still s t false y searches (owning_port x.port (port_loaded a own)) (stays x.contention (low_met low ∙ ap (λ (c : Bool). if c then meeting x.contention else x.contention) ne.0)) refl refl)
       ])
 
--- the exchange of its mark m
+-- the exchange of its entering word m
 module _ (s t : Stand) (y q m a : ℕ) (w : MayPutPort s y q m) (from : entering_mark ≤ m) (told : PutsBy m (port_at s) a (port_at t)) where
   abbrev put : OwnedArena
   put = w.holds.owned

@@ -92,12 +92,12 @@ pub record BeganInTime (b : Beside) (g : Began) : Type 0 where
   pub reached : (later before : List (List Applied)) (log : List Applied) → b.log ∷ b.before ≡ later ++ log ∷ before →
       length before ≡ g.epoch → g.length ≤ length (history_of (log ∷ before))
 
--- a port that is entering stored its mark no earlier than its call began
+-- a port that is entering stored its entering word no earlier than its call began
 abbrev pub IsSince : Began → Entering → ℕ → Type 0
 IsSince g Stands since = ⊤
 IsSince g _ since = g.epoch ≤ since
 
--- What is counted beside the words: the number of the epoch that was the current one as each port stored its last entering mark, and how
+-- What is counted beside the words: the number of the epoch that was the current one as each port stored its last entering word, and how
 -- often ports have changed their sites and arenas have become free.
 pub record Reckoning : Type 0 where
   pub since : ℕ → ℕ

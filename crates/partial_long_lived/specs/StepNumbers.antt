@@ -40,5 +40,6 @@ few_components = record { change = 4898; update = 490080; update_if = 490128; wh
 abbrev pub more_components : MostSteps
 more_components = record { change = 14234; update = 4715536; update_if = 4715584; whole_scan = 18850; scan = 14370 }
 
+-- the bounds of the calls in memories of these two sizes are these numbers
 abbrev pub MostStepsInNumbers : Type 0
 MostStepsInNumbers = MakesAtMost 3 2 few_components × MakesAtMost 64 4 more_components

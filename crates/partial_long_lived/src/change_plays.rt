@@ -74,7 +74,7 @@ impl Play<(), View> for LoadPort {
     ghost then = { λ _. tells (OfOwned LoadsPort) };
 }
 
-/// The exchange of the mark of that port.
+/// The exchange of the entering word of that port.
 pub struct Put;
 
 impl Play<(), View> for Put {

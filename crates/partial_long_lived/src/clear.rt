@@ -76,7 +76,7 @@ fn load_port(words: &Words, stand: &mut Stand, arena: u32, port: u32) -> u64
     words.load::<LoadPort>(&mut stand.seat, 1 + port as usize)
 }
 
-// Puts the next port, of which the owner has loaded the mark, where the owner stands.
+// Puts the next port, of which the owner has loaded the entering word, where the owner stands.
 fn put_port(words: &Words, stand: &mut Stand, arena: u32, port: u32, mark: u64) -> Claimed
     requires held { IsHeld words.now.table_id words.now.key stand.old }
     requires may { MayPutPort stand.old arena port mark }

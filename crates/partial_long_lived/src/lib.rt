@@ -1,4 +1,4 @@
-//! A memory that never wears out. Its words lie in arenas, one for each epoch, that are used again and again; its
+//! The long-lived memory. Its words lie in arenas, one for each epoch, that are used again and again; its
 //! ports go from epoch to epoch. Each call is wait-free: a port that finds another one at a change of epoch looks a
 //! bounded number of times whether that one has made it, and then makes the change itself.
 #![tactic(auto)]

@@ -26,7 +26,7 @@ impl Play<(), View> for FirstLook {
     ghost then = { λ _. tells (SeatLooks true) };
 }
 
-/// The store of the entering mark.
+/// The store of the entering word.
 pub struct Mark;
 
 impl Play<(), View> for Mark {
@@ -46,7 +46,7 @@ impl Play<(), View> for LoadCurrent {
     ghost then = { λ _. tells LoadsCurrent };
 }
 
-/// The exchange of the entering mark, whose operand is the word of the site that was loaded.
+/// The exchange of the entering word, whose operand is the word of the site that was loaded.
 pub struct Arrive;
 
 impl Play<(), View> for Arrive {

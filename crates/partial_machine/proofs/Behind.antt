@@ -1,4 +1,4 @@
--- What is known of a machine behind a possible answer.
+-- What is known of a machine after a possible answer.
 use Rattle.partial_machine.proofs.{Common.{ℕ, ◌≡◌, ◌+◌, ◌-◌, ◌<◌, ◌≤◌, ◌==◌, ◌⊎◌, Bool, true, false, if◌then◌else◌, not, ◌||◌, min, Option, Some, None, IsSome, List, [], ◌∷◌, length, refl, sym, ap, subst, ◌∙◌, inl, inr, arith, is_some, nat_lt, option_map_or, false≢true, cond_both, ltb-true, ltb-false, Refused, Step, Store, Add, Layout, IsLayout, slot_counter, slot_word, pool_counter, list_counter, list_end, pool_end, greatest_record, announcement_size, indices_word, next_word, with_index, begins_at, join_step, join_after, advance_join, JoinStage, Claiming, Storing, Joined, Spent, Change, Reply, Stage, is_begun, is_at_rest, IsSound, is_sound_at, IsPossibleAt, Run, ClaimsPastLists, IsRefusedBy, IsMarkedFor, refuses_pool, refuses_slots, AnswersLeadOn, DueIsUnreplied, claim_size, into_spare, into_claim}, Sound.{kept, size_few, record_cases}}
 use Rattle.partial_intervals.specs.Intervals.{highest}
 use Rattle.partial_active.specs.declared.get_set.Stage.{Stage as SetStage}
@@ -74,7 +74,7 @@ no_slots (Some (Reply.Scanned c b)) h = refl
 no_slots (Some (Reply.Read v stamp)) h = refl
 no_slots (Some (Reply.Changed by)) h = refl
 
--- what the machine t is behind an answer to s
+-- what the machine t is after an answer to s
 record After (s : CoreState) (x : ℕ) (t : CoreState) : Type 0 where
   ahead : is_behind t.stage ≡ true
   refused_by : (cause : Refused) → reply_at t.stage ≡ Some (Reply.Refused cause) → IsRefusedBy s x cause × (¬ IsMarkedFor s cause)
@@ -192,7 +192,7 @@ module _ (s : CoreState) (x : ℕ) (w : IsSound s) where
   after_at Leaving e p = plain s x (advance_at s Leaving x) (Finished (scanned_reply s)) refl refl refl refl refl
   after_at (Finished r) e p = absurd p
 
--- the mark for the list words behind an answer to a getSet
+-- the mark for the list words after an answer to a getSet
 abbrev MarksLists : SetStage → finding.SetPair → ℕ → finding.SetPair → Type 0
 MarksLists t p x q = (q.0.lists_spent ≡ p.0.lists_spent) ⊎ ((words : ℕ) × (t ≡ set.Claim words) × (list_end p.0.sizes < x + words) × (q.0.lists_spent ≡ true))
 
@@ -234,7 +234,7 @@ marks_lists (set.Write at k words word) p x = inl refl
 marks_lists (set.Publish at) p x = inl refl
 marks_lists set.Done p x = inl refl
 
--- the marks for the list words behind an answer
+-- the marks for the list words after an answer
 abbrev KeepsLists : CoreState → ℕ → CoreState → Type 0
 KeepsLists s x t = (lists_spent s ≡ true → lists_spent t ≡ true) × (lists_spent s ≡ false → lists_spent t ≡ true → ClaimsPastLists s x)
 

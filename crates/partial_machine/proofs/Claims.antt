@@ -36,7 +36,7 @@ unfolding count
 few true = omega arith
 few false = omega arith
 
--- the claims of a step, with those that are left behind it
+-- the claims of a step, with those that are left after it
 abbrev Falls : (Layout → ℕ) → (CoreState → Stage → ℕ) → CoreState → Stage → CoreState → Type 0
 Falls counter left s t q = count (claims (counter s.sizes) (step_at s t)) + left q q.stage ≤ left s t
 

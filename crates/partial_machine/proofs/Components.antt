@@ -44,7 +44,7 @@ scan_goes_on z shares positions answers p x w possible = record {
   runs = (w.runs.0, w.runs.1, run_on positions (viewing.fresh_view z shares, w.rows) p w.own x w.runs.2 possible);
 }
 
--- where a getSet loads a word of a block, that word lies behind those of the components
+-- where a getSet loads a word of a block, that word lies after those of the components
 abbrev is_behind : Layout → SetStage → Type 0
 is_behind z (set.ListLen at) = z.m ≤ at
 is_behind z (set.ListLow at left) = z.m ≤ at
@@ -138,7 +138,7 @@ module _ (s : CoreState) (layout : IsLayout s.sizes) (w : IsSound s) (answers : 
   here : (t : Stage) → s.stage ≡ t → is_sound_at s t
   here t e = subst (is_sound_at s) e w.stage
 
-  -- what is known behind the answer
+  -- what is known after the answer
   abbrev Then : CoreState → Type 0
   Then q = scanned_at (answers ++ x ∷ []) q q.stage
 
@@ -175,7 +175,7 @@ module _ (s : CoreState) (layout : IsLayout s.sizes) (w : IsSound s) (answers : 
       either (Some step) due = subst (scanned_at (answers ++ x ∷ []) on) (sym e) more
       either None none = λ some. (more, none_due s.found.indices q.1.last q q.0.stage none)
 
-  -- a scan that has joined begins its embedded scan; the machine behind the answer is sound
+  -- a scan that has joined begins its embedded scan; the machine after the answer is sound
   joined : s.stage ≡ Joining → IsSound (advance_at s Joining x) → Then (advance_at s Joining x)
   joined e sound = by (advance_join s.join x).stage sound
     where
@@ -408,7 +408,7 @@ begun_of_call s (UpdateBegun d) c e = let same : update_call d.component d.expec
 begun_of_call s ScanBegun c e = let same : Call.Scan s.asked ≡ c = cc in subst (λ (d : Call). is_of d s.asked ScanBegun) same (refl, tt)
 begun_of_call s _ c e = absurd cc
 
--- a load of a word behind those of the components
+-- a load of a word after those of the components
 abbrev IsBehind : Layout → Option Step → Type 0
 IsBehind z (Some (Load v)) = z.m ≤ v
 IsBehind z _ = ⊤

@@ -13,7 +13,7 @@ module _ (value : ℕ → ℕ) (l : List ℕ) (k : ℕ) (within : k < pairs_size
   here : slice_index_or pairs (k / 2) (0, value 0) ≡ (slice_index l (k / 2), value (slice_index l (k / 2)))
   here = lists.get_or-map (λ j. (j, value j)) l (k / 2) 0
 
-  -- at an even place stands an index, at the odd one behind it its value
+  -- at an even place stands an index, at the odd one after it its value
   pub index_word : k % 2 ≡ 0 → slice_index l (k / 2) ≡ slice_index (flat_map pair_words pairs) k
   index_word even = sym (ap (λ (d : ℕ × ℕ). d.0) here) ∙ word_even pairs k (0, value 0) inside even
 

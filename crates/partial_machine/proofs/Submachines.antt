@@ -1,4 +1,4 @@
--- The machine holds behind an answer to one of the machines in it, as the code comes to it.
+-- The machine after an answer to one of the machines in it, as the code makes it.
 use Rattle.partial_machine.proofs.{Common.{ℕ, ◌≡◌, ◌<◌, ◌==◌, true, false, if◌then◌else◌, List, length, Option, Some, None, refl, sym, ◌∙◌, ap, subst, false≢true, option_map_or, is_some, Step, answer_of, Change, Stage, IsPossible, IsPossibleAt, MayPerform, IsMachine, steps_left}, Sound.{machine_on, fewer_on}}
 use Rattle.partial_model.proofs.ListLemmas.{some_same}
 use Rattle.partial_active.specs.GetSet as finding
@@ -9,7 +9,7 @@ use Rattle.std.specs.Prelude.{slice_index}
 use Rattle.partial_words.specs.declared.step.Step.TheVariants.{Load}
 use Rattle.partial_machine.specs.Machine.{CoreState, getting, scanning, with_getting, with_scanning, after_getting, after_scanning, advance, advance_at, step_at, step_of}
 
--- where a step is due the machine goes on, and else it has come to the next stage
+-- where a step is due the machine goes on, and else it has reached the next stage
 goes_on : {A B : Type 0} (o : Option A) (x y : B) → is_some o ≡ true → x ≡ option_map_or (λ _. x) o y
 goes_on None x y due = absurd (false≢true due)
 goes_on (Some a) x y due = refl

@@ -1,7 +1,7 @@
 -- A memory that is closed: the ports that were handed in, and the last state.
 use Rattle.partial_memory.proofs.{Common.{ℕ, ◌≡◌, ◌++◌, List, [], ◌∷◌, length, map, refl, sym, ap, subst, ◌∙◌, append_assoc, append-nil, AllByRecursion, nil_from_length, some, get_elem?, State, Me, TableId, Applied, all_append, all_back, all_front, total, RecordsAreWithin, lawful_ports_fit, lawful_records_are_within, About, SeatedPort, AreByOpened, AreSeatedOf, IsIn, IsRuleKept, IsLawfulWith, IsShuffle, parts_of, IsOf, MemoryView, PortView, port_view, AreChains, AreValues, Closes, IsPortOf, Closed, ClosesLawfully}, Looks.{see_all, to_front}, Shuffles.put_elsewhere, Steps.entries_opened, Views.around}
 
--- what a history tells of a port is what the port knows of it
+-- what a history says of a port is what the port knows of it
 port_in : (t : TableId) (log : List Applied) (x : SeatedPort) → IsIn log x → IsPortOf log (port_view t x)
 port_in t log x w = record { seen = w.seen; legal = w.fits.legal; once = w.fits.once }
 

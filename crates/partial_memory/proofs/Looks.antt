@@ -44,7 +44,7 @@ see_all about words log b (x ∷ xs) a all own shuffle lawful opened =
       );
     }
 
--- the ports of a view come to the front
+-- the ports of a view move to the front
 pub to_front : (b v a all : List SeatedPort) → IsShuffle (b ++ (v ++ a)) all → IsShuffle (v ++ (b ++ a)) all
 to_front b [] a all s = s
 to_front b (x ∷ v) a all s =
@@ -84,7 +84,7 @@ looks_on about slots id me own table kept homes at small =
       },
     )
 
--- A single port of another view comes behind those of a view.
+-- A single port of another view comes after those of a view.
 record Apart (views after : List (List SeatedPort)) (x : SeatedPort) : Type 0 where
   b : List SeatedPort
   a : List SeatedPort

@@ -22,7 +22,7 @@ rests_met views after core number log w fit is =
     } in
     subst (λ (v : List (List SeatedPort)). IsResting v core number) (sym is) rest
 
--- the ports of two seats, and what a look told them
+-- the ports of two seats, and what a look showed them
 pub record Looked (x y : SeatedPort) (v : List SeatedPort) : Type 0 where
   pub log : List Applied
   pub is : v ≡ having_met log x ∷ having_met log y ∷ []

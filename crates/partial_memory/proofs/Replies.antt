@@ -67,7 +67,7 @@ module _ (t : TableId) (b : CoreState) (x : SeatedPort) (c : CoreState) (y : Sea
       let few = (made_calls_make_their_steps z x.about.opening b x.part c y.part layout m.made).few call w.call in
       record { first = m.made.first; steps = m.steps; few = omega (arith, few) }
 
-  -- the marks of the port before and behind the call
+  -- the marks of the port before and after the call
   pool_before : b.pool_spent ≡ p.pool_spent
   pool_before = w.begins.begun.like.pool
 
@@ -169,7 +169,7 @@ UpdateIfTold p j x v (Reply.Changed by) q = UpdatesIf p j x v (UpdatedIf.Changed
 UpdateIfTold p j x v (Reply.Refused cause) q = RefusedLate p q (Call.UpdateIf j x v) cause × IsLedToRefusal p q (Call.UpdateIf j x v) cause
 UpdateIfTold p j x v _ q = ⊥
 
--- a read is never refused behind a step
+-- a read is never refused after a step
 abbrev pub ReadTold : PortView → ℕ → Reply → PortView → Type 0
 ReadTold p j (Reply.Read v s) q = Reads p j v s q × IsLedToAnswer p q (Call.Read j) (Answer.Read v s)
 ReadTold p j _ q = ⊥

@@ -3,7 +3,7 @@ use Rattle.partial_memory.proofs.{Common.{ℕ, zero, suc, ◌≡◌, ◌+◌, �
 use prog.Atomic.{either}
 use Rattle.partial_core.specs.{Lawful.LawfulAmong, Part.PartAmong}
 
--- what the word of a step becomes, and what a machine is told of the number found
+-- what the word of a step becomes, and which answer a machine gets for the number found
 abbrev pub change_of : Step → ℕ → ℕ
 change_of (Load w) n = n
 change_of (Store w v) n = v
@@ -16,7 +16,7 @@ told_of (Store w v) n = 0
 told_of (Exchange w old new) n = n
 told_of (Add w k) n = n
 
--- the parts before, here and behind
+-- the parts before, here and after
 pub parts_split : (before : List SeatedPort) (x : SeatedPort) (after : List SeatedPort) → parts_of (before ++ x ∷ after) ≡ parts_of before ++ x.part ∷ parts_of after
 parts_split [] x after = refl
 parts_split (b ∷ before) x after = ap (λ l. b.part ∷ l) (parts_split before x after)
@@ -63,7 +63,7 @@ module _ (words : List ℕ) (before : List SeatedPort) (x : SeatedPort) (after :
   pub leads : LeadsOn x.about.sizes x.about.opening (among words before x after log) c s
   leads = steps_stay_lawful x.about.sizes x.about.opening (among words before x after log) c s lawful_here machine due
 
-  -- the port behind the step, and the history
+  -- the port after the step, and the history
   abbrev pub next : SeatedPort
   next = record { about = x.about; part = leads.y; steps = x.steps + 1 }
 

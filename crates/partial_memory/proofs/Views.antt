@@ -1,7 +1,7 @@
 -- The parts of all views: around one view, cut off and gathered.
 use Rattle.partial_memory.proofs.{Common.{◌≡◌, ℕ, zero, suc, List, [], ◌∷◌, ◌++◌, slice_set, refl, ap, sym, ◌∙◌, subst, append_assoc, append-nil, some, some-injective, some-ne-none, get_elem?, State, Splits, About, SeatedPort, flatten, IsRuleKept, IsShuffle, further_ports, first_port}, Shuffles.put_elsewhere}
 
--- the parts before and behind those of the view at a place, whatever that view becomes
+-- the parts before and after those of the view at a place, whatever that view becomes
 pub record Around (views : List (List SeatedPort)) (id : ℕ) (v : List SeatedPort) : Type 0 where
   pub before : List SeatedPort
   pub behind : List SeatedPort

@@ -23,7 +23,7 @@ pub all_weaker : {A : Type 0} (P R : A → Type 0) → ((x : A) → P x → R x)
 all_weaker P R f [] p = tt
 all_weaker P R f (x ∷ xs) p = (f x p.0, all_weaker P R f xs p.1)
 
--- two lists, one behind the other
+-- two lists, one after the other
 pub all_append : {A : Type 0} (P : A → Type 0) (xs ys : List A) → AllByRecursion P xs → AllByRecursion P ys → AllByRecursion P (xs ++ ys)
 all_append P [] ys v w = w
 all_append P (x ∷ xs) ys v w = (v.0, all_append P xs ys v.1 w)
@@ -56,7 +56,7 @@ position_below [] n k all within = absurd (omega arith)
 position_below (x ∷ xs) n zero all within = all.0
 position_below (x ∷ xs) n (suc k) all within = position_below xs n k all.1 (omega (arith, within))
 
--- the first of a list's elements, and those behind them
+-- the first of a list's elements, and those after them
 pub all_take : {A : Type 0} (P : A → Type 0) (n : ℕ) (xs : List A) → AllByRecursion P xs → AllByRecursion P (take n xs)
 all_take P zero xs all = tt
 all_take P (suc n) [] all = tt

@@ -14,7 +14,7 @@ unfolding last_from
 last_of_both found j [] b = refl
 last_of_both found j (e ∷ a) b = last_of_both (if e.component == j then Some e else found) j a b
 
--- what is told of the entry that was found last, or of none
+-- what is said of the entry that was found last, or of none
 module _ (f : Applied → ℕ) where
   abbrev In : Option Applied → ℕ → ℕ
   In found d = option_map_or f found d
@@ -30,7 +30,7 @@ module _ (f : Applied → ℕ) where
   found_before found j (e ∷ h) d = found_before (if e.component == j then Some e else found) j h d ∙ ap (In (last_from None j h)) (chosen (e.component == j) e found d)
       ∙ sym (found_before (if e.component == j then Some e else None) j h (In found d))
 
-  -- what is told after two histories is what the second one tells over what the first one does
+  -- what is said after two histories is what the second one says over what the first one does
   pub behind_both : (a b : List Applied) (j d : ℕ) → In (last_from None j (a ++ b)) d ≡ In (last_from None j b) (In (last_from None j a) d)
   behind_both a b j d = ap (λ (t : Option Applied). In t d) (last_of_both None j a b) ∙ found_before (last_from None j a) j b d
 
@@ -54,7 +54,7 @@ pub last_entry-passed : (h : List Applied) (i j : ℕ) (d : Applied) → 0 < i �
 last_entry-passed h i j d some within other =
     last_entry-take h i j d some within ∙ ap (λ b. if b then Some (slice_index_or h (i - 1) d) else last_entry j (take (i - 1) h)) (ne_eqb _ _ other)
 
--- the value and the stamp behind one entry more
+-- the value and the stamp after one entry more
 pick : {A B : Type 0} (f : A → B) (b : Bool) (x : A) (found : Option A) (d : B) → option_map_or f (if b then Some x else found) d ≡ (if b then f x else option_map_or f found d)
 pick f true x found d = refl
 pick f false x found d = refl

@@ -83,7 +83,7 @@ none_for (x ∷ h) j (suc n) within none =
     let at : slice_get (x ∷ h) n ≡ Some e = slice_get-get_or (x ∷ h) n x (omega arith) in
     passed (x ∷ h) j n x (omega arith) (none n e (omega arith) at) ∙ none_for (x ∷ h) j n (omega arith) (λ k f lt s. none k f (omega arith) s)
 
--- the entry at place p is for the component, and none behind it among the first n
+-- the entry at place p is for the component, and none after it among the first n
 last_for : (h : List Applied) (j p : ℕ) (e : Applied) (n : ℕ) → n ≤ length h → p < n → slice_get h p ≡ Some e → e.component ≡ j →
     ((k : ℕ) (f : Applied) → p < k → k < n → slice_get h k ≡ Some f → f.component ≢ j) → last_entry j (take n h) ≡ Some e
 last_for h j p e zero within below s is none = absurd (omega arith)
@@ -208,7 +208,7 @@ all_new h place w =
     (Decides-are_distinct h).1 (distinct_where h (λ i k e f s t same.
     some_same (sym (w.found i e (slice_get_within h i e s) s) ∙ ap place same ∙ w.found k f (slice_get_within h k f t) t)))
 
--- ---- a stamp behind a prefix
+-- ---- a stamp after a prefix
 
 pub shows_nothing : (h : List Applied) (n t : ℕ) (js : List ℕ) (place : ℕ → Option ℕ) → AreStampsOf h (length h) place → place t ≡ None → shows_stamp js t (drop n h) ≡ false
 shows_nothing h n t js place w none =

@@ -75,7 +75,7 @@ places_step : (p k : ℕ) (x : Applied) (all rest last : List ℕ) (b : Bool) �
 places_step p k x all rest last true e = ap (λ (l : List ℕ). k ∷ l) e
 places_step p k x all rest last false e = e
 
--- an entry more stands behind a port's other places
+-- an entry more stands after a port's other places
 pub places_by-push : (p k : ℕ) (h : List Applied) (e : Applied) → places_by p k (h ++ e ∷ []) ≡ places_by p k h ++ (if e.port == p then (k + length h) ∷ [] else [])
 places_by-push p k [] e = ap (λ n. if e.port == p then n ∷ [] else []) (omega arith)
 places_by-push p k (x ∷ h) e =
@@ -101,7 +101,7 @@ AllByRecursion-get P [] k x w s = let bad : None ≡ Some x = s in cc
 AllByRecursion-get {A} P (y ∷ ys) zero x w s = let same : y ≡ x = cc in subst P same w.0
 AllByRecursion-get P (y ∷ ys) (suc k) x w s = AllByRecursion-get P ys k x w.1 s
 
--- a stamp that no entry has may come to the end
+-- a stamp that no entry has may be added at the end
 pub distinct_push : (h : List Applied) (e : Applied) → HaveDistinctStamps h → AllByRecursion (λ f. f.stamp ≢ e.stamp) h → HaveDistinctStamps (h ++ e ∷ [])
 distinct_push [] e w new = (tt, tt)
 distinct_push (x ∷ h) e w new = (AllByRecursion-push (λ f. x.stamp ≢ f.stamp) h e w.0 new.0, distinct_push h e w.1 new.1)

@@ -23,14 +23,14 @@ distinct_at (x ∷ h) k zero e f w s t less = absurd (omega (arith, less))
 distinct_at (x ∷ h) zero (suc q) e f w s t less = let is : x ≡ e = cc in subst (λ (d : Applied). d.stamp ≢ f.stamp) is (AllByRecursion-get (λ (g : Applied). x.stamp ≢ g.stamp) h q f w.0 t)
 distinct_at (x ∷ h) (suc k) (suc q) e f w s t less = distinct_at h k q e f w.1 s t (omega (arith, less))
 
--- the stamp after the first a entries is none of an entry behind them
+-- the stamp after the first a entries is none of an entry after them
 stamp_before : (o : Opening) (h : List Applied) (j a q : ℕ) (f : Applied) → IsHistory o h → j < length o.values → slice_get h q ≡ Some f → a ≤ q → stamp_of o (take a h) j ≢ f.stamp
 stamp_before o h j a q f w below t from =
     stamp_all (λ (s : ℕ). s ≢ f.stamp) o j (take a h)
     (all_where (λ (e : Applied). e.stamp ≢ f.stamp) (take a h) (λ k e s. let at = in_whole a h k e s in let less = at.0 in distinct_at h k q e f w.distinct at.1 t (omega (arith, less, from))))
     (λ same. AllByRecursion-get (λ (e : Applied). (i : ℕ) → i < length o.values → e.stamp ≢ initial_stamp o i) h q f w.not_initial t j below (sym same))
 
--- what the last entry tells of the stamp and of the value
+-- what the last entry says of the stamp and of the value
 pub stamp_told : (o : Opening) (h : List Applied) (j : ℕ) (f : Option Applied) → last_entry j h ≡ f → stamp_of o h j ≡ option_map_or (λ (x : Applied). x.stamp) f (initial_stamp o j)
 stamp_told o h j f e = ap (λ (g : Option Applied). option_map_or (λ (x : Applied). x.stamp) g (initial_stamp o j)) e
 

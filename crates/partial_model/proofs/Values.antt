@@ -5,7 +5,7 @@ use Rattle.partial_model.proofs.{Common.{ℕ, zero, suc, ◌≡◌, ◌+◌, ◌
 pub value_at_first : (o : Opening) (j : ℕ) → value_of o [] j ≡ slice_index o.values j
 value_at_first o j = ap (λ (found : Option Applied). option_map_or (λ (x : Applied). x.value) found (slice_index o.values j)) (last_entry-nil j)
 
--- the value behind one entry more
+-- the value after one entry more
 pub value_behind : (o : Opening) (h : List Applied) (k : ℕ) (e : Applied) (j : ℕ) → slice_get h k ≡ Some e → value_of o (take (k + 1) h) j
     ≡ (if e.component == j then e.value else value_of o (take k h) j)
 value_behind o h k e j s =

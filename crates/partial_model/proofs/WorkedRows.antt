@@ -164,7 +164,7 @@ lost_to_the_opening : Unlawful two exchanged (exchange_calls 0 (Answer.Lost 18) 
 unfolding last_from
 lost_to_the_opening = unlawful two exchanged (exchange_calls 0 (Answer.Lost 18) (Note.Lost 0)) refl
 
--- the value of the last update, told of the prefix before it
+-- the value of the last update, noted of the prefix before it
 value_from_the_future : Unlawful two (two_updates 5 6) (scan_beside 5 6 6 (Some 32) 1)
 unfolding last_from
 value_from_the_future = unlawful two (two_updates 5 6) (scan_beside 5 6 6 (Some 32) 1) refl

@@ -39,7 +39,7 @@ zero_places (e ∷ h) k none =
           cc
     ]
 
--- a call of port 0 behind that one begins at that length or later
+-- a call of port 0 after that one begins at that length or later
 abbrev GoesFrom : Option Called → ℕ → Type 0
 GoesFrom b low = (c : Called) → c.port ≡ 0 → Follows b c → low ≤ c.began
 
@@ -56,7 +56,7 @@ goes_next c low zero' d at f = elim f [
     here None w = absurd w
     here (Some g) w = w
 
--- what the notes claim lies behind the begin
+-- what the notes claim lies after the begin
 abbrev InTime : ℕ → ℕ → Option Finish → Type 0
 InTime n began f = IfSome f (λ (f : Finish). (began ≤ f.ended) × (f.ended ≤ n) × IfSome f.note (λ note. (began ≤ place_of note) × (shown_by note ≤ f.ended)))
 
@@ -106,7 +106,7 @@ answers_alone o h p m began ended (Call.Update j v) (Answer.Applied s) n fits is
 answers_alone o h p m began ended _ (Answer.Refused cause) n fits is alone = tt
 answers_alone o h p m began ended _ _ _ fits is alone = absurd fits
 
--- one call, and where the places of those behind it begin
+-- one call, and where the places of those after it begin
 record GoesAlone (o : Opening) (h : List Applied) (low n began : ℕ) (c : Call) (f : Option Finish) (rest : List Noted) : Type 0 where
   alone : IfSome f (λ g. AddsAlone began g.ended g.note × AnswersAlone o (take began h) c g.answer)
   left : ℕ

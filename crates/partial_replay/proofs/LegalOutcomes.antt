@@ -1,4 +1,4 @@
--- The calls that a replay tells are a legal outcome.
+-- The calls that a replay lists are a legal outcome.
 use Rattle.partial_replay.proofs.{Common.{ℕ, zero, suc, ◌⊎◌, map, take, ◌≡◌, ◌≢◌, ◌+◌, ◌<◌, ◌≤◌, ◌++◌, ◌==◌, Bool, true, false, if◌then◌else◌, List, [], ◌∷◌, length, Option, Some, None, IfSome, IsSomeAnd, MatchOption, slice_get, refl, sym, ◌∙◌, ap, subst, inl, inr, arith, append_assoc, filter, filter_map, AllByRecursion, filter-append, filter_map-append, append-nil, length_push, map_push, ne_eqb, eqb_tells, Applied, Opening, Call, Called, Finish, Noted, LegalNotes, shown_by, place_of, noted_of, notes_of, places_written, Follows, RealTime, LegalOutcome, Layout, CoreState, most_steps, AllByRecursion-append, Part, core_of, port_of, IsBetween, IsMachineOf, Port, UnderWay, HasLeastPlace, calls_by, AreFirstOf, AreAllMade, AreFew, IsSome, AreFinished, IsCallUnderWay, PortFits, end_of_call, ends_of, notes_in, unfinished_call, PortsFit, IsRunOf, left_over, calls_in, ReplayState, some_same, no_ports, first_port}, PortLaws.{take_next, same_eqb}, Opens.{over_none, none_over}}
 use Rattle.partial_core.specs.Known.{notes_by}
 
@@ -56,7 +56,7 @@ split_other {log} {q} {calls} {port} p plans ports away w =
     (other_filter (length log) q p 0 0 port.finished.items w.finished away)
     ∙ ap (λ (l : List Called). l ++ calls_by p (calls_in plans ports)) (over_other p port (slice_get calls (length port.finished.items)) port.under_way (λ h. away (sym w.number ∙ h)))
 
--- ports behind number p list no call of port p, and neither do those before it
+-- ports after number p list no call of port p, and neither do those before it
 pub none_listed : {o : Opening} {log : List Applied} {q : ℕ} {plans : List (List Call)} {parts : List Part} {ports : List Port} (p : ℕ) → (p < q) ⊎ (q + length plans ≤ p) →
     PortsFit o log q plans parts ports → calls_by p (calls_in plans ports) ≡ []
 none_listed p out no_ports = refl
@@ -120,7 +120,7 @@ all_made {log} {calls} {p} {port} w none all =
     append-nil port.finished.items in
     subst (AreAllMade calls) (sym is) (all, ended_calls (length log) p 0 0 port.finished.items w.finished)
 
--- what is noted of one port's calls and of those behind it
+-- what is noted of one port's calls and of those after it
 head_notes : (p : ℕ) (calls : List Call) (plans : List (List Call)) (port : Port) (ports : List Port) (own : List Noted) → notes_of p port.finished.items ≡ own →
     notes_of p (calls_in (calls ∷ plans) (port ∷ ports)) ≡ own ++ notes_of p (calls_in plans ports)
 head_notes p calls plans port ports own h =
@@ -129,7 +129,7 @@ head_notes p calls plans port ports own h =
     ∙ ap (λ (l : List Noted). l ++ notes_of p (calls_in plans ports)) (notes_split p port.finished.items over ∙ ap (λ (l : List Noted). notes_of p port.finished.items ++ l)
     (over_notes p port (slice_get calls (length port.finished.items)) port.under_way) ∙ append-nil (notes_of p port.finished.items) ∙ h)
 
--- ports behind number p have no note of port p
+-- ports after number p have no note of port p
 none_behind : {o : Opening} {log : List Applied} {q : ℕ} {plans : List (List Call)} {parts : List Part} {ports : List Port} (p : ℕ) → p < q → PortsFit o log q plans parts ports →
     (notes_of p (calls_in plans ports) ≡ []) × (notes_by p parts ≡ [])
 none_behind p less no_ports = (refl, refl)
@@ -173,7 +173,7 @@ notes_told {o} {log} {q} p (first_port {calls = c} {plans = plans} {x = x} {part
       )
 ]
 
--- the calls that may stand behind that one: the first of a port from q on, or a port's call number k that begins at that length or later
+-- the calls that may stand after that one: the first of a port from q on, or a port's call number k that begins at that length or later
 abbrev BeginsPort : Option Called → ℕ → Type 0
 BeginsPort b q = (c : Called) → q ≤ c.port → c.number ≡ 0 → Follows b c
 
@@ -195,7 +195,7 @@ finish_ends : (c : Called) (n : ℕ) (f : Option Finish) → IsSomeAnd f (λ g. 
 finish_ends c n None w = absurd w
 finish_ends c n (Some f) w = let a = w.0 in let b = w.1 in (w.0, w, omega (arith, a, b))
 
--- the finished calls are in time where those behind them are
+-- the finished calls are in time where those after them are
 finished_time : (n p k low : ℕ) (cs : List Called) (b : Option Called) (tail : List Called) → AreFinished n p k low cs → GoesBehind b p k low → BeginsPort b (p + 1) →
     ((d : Option Called) → GoesBehind d p (k + length cs) (ends_of low cs) → BeginsPort d (p + 1) → RealTime n d tail) → RealTime n b (cs ++ tail)
 finished_time n p k low [] b tail w goes begins on = on b (subst (λ (m : ℕ). GoesBehind b p m low) (omega arith) goes) begins

@@ -1,4 +1,4 @@
--- The calls of a port are told by the plan, the events and the lengths of the history at the port's turns.
+-- The calls of a port are determined by the plan, the events and the lengths of the history at the port's turns.
 use Rattle.partial_replay.proofs.{Common.{ℕ, ◌⊎◌, ◌≡◌, ◌≢◌, ◌+◌, ◌<◌, ◌≤◌, ◌++◌, Bool, if◌then◌else◌, List, [], ◌∷◌, length, map, take, Option, Some, None, IfSome, IsSomeAnd, refl, sym, ◌∙◌, ap, subst, inl, inr, arith, length-append, option_map, ne_eqb, eqb_tells, Applied, Opening, Answer, Call, Called, Finish, Note, Refused, HaveDistinctStamps, Follows, RealTime, Reply, Idle, CoreState, at_stage, advance, reply_of, answer_for, begun_of, refusal_of, Moment, last_behind, Makes, HasSteps, IsFinishedAtOnce, IsRefusedAtOnce, IsCallRun, AreStepsOf, calls_by, AreFirstOf, EndInStep, BeginInTurns, due_is_unreplied}, PortLaws.same_eqb, PortRuns.{AreFinishedBut, none_map}, OneNote.{IsRightNote, AreRight, notes_same}}
 
 -- ---- the calls of one port, numbered
@@ -14,7 +14,7 @@ own_call q c cs same = ap (λ (b : Bool). if b then c ∷ calls_by q cs else cal
 pub other_call : (q : ℕ) (c : Called) (cs : List Called) → c.port ≢ q → calls_by q (c ∷ cs) ≡ calls_by q cs
 other_call q c cs other = ap (λ (b : Bool). if b then c ∷ calls_by q cs else calls_by q cs) (ne_eqb c.port q other)
 
--- behind a call of a later port there is none of port q
+-- after a call of a later port there is none of port q
 none_past : (n q : ℕ) (b : Called) (cs : List Called) → q < b.port → RealTime n (Some b) cs → calls_by q cs ≡ []
 none_past n q b [] past w = refl
 none_past n q b (c ∷ cs) past w =
@@ -24,7 +24,7 @@ none_past n q b (c ∷ cs) past w =
 none_finished : (f : Option Finish) (began : ℕ) → f ≡ None → IsSomeAnd f (λ g. g.ended ≤ began) → ⊥
 none_finished f began none w = let v : IsSomeAnd None (λ (g : Finish). g.ended ≤ began) = subst (λ (g : Option Finish). IsSomeAnd g (λ e. e.ended ≤ began)) none w in absurd v
 
--- the calls behind one of port q
+-- the calls after one of port q
 listed_behind : (n q : ℕ) (b : Called) (cs : List Called) → b.port ≡ q → RealTime n (Some b) cs → (b.finish ≡ None → calls_by q cs ≡ []) × AreListedFrom q (b.number + 1) (calls_by q cs)
 listed_behind n q b [] own w = ((λ none. refl), tt)
 listed_behind n q b (c ∷ cs) own w = elim w.0 [
@@ -82,7 +82,7 @@ makes_same s t v (x ∷ xs) (y ∷ ys) behind behind' m k all last last' =
     let rest = makes_same (advance s x.event.answer) t v xs ys behind behind' m.2 next more last last' in
     (ap (λ (z : Moment). z ∷ xs) one ∙ ap (λ (l : List Moment). y ∷ l) rest.0, rest.1, rest.2)
 
--- what a call comes to, but for its note
+-- what becomes of a call, except its note
 record SameCall (c d : Called) (own own' behind behind' : List Moment) (u v : CoreState) : Type 0 where
   events : own ≡ own'
   rest : behind ≡ behind'
@@ -156,7 +156,7 @@ module _ (s : CoreState) (c d : Called) (u v : CoreState) (behind behind' : List
   ]
   call_same (x ∷ xs) (y ∷ ys) a b all last last' = steps_same x y xs ys a b all last last'
 
--- ---- the calls of a port, one behind the other
+-- ---- the calls of a port, one after the other
 
 -- what is known of a port's calls, from a machine, a turn and a number on
 pub record AreMade (o : Opening) (h : List Applied) (q : ℕ) (ls : List ℕ) (plan : List Call) (turn k : ℕ) (s : CoreState) (xs : List Moment) (cs : List Called) : Type 0 where
@@ -167,7 +167,7 @@ pub record AreMade (o : Opening) (h : List Applied) (q : ℕ) (ls : List ℕ) (p
   pub last : CoreState
   pub steps : AreStepsOf s cs xs last
 
--- both come to their end alike: all calls are made, or the last has made a step
+-- both end alike: all calls are made, or the last has made a step
 abbrev pub EndAlike : List Call → List Called → List Called → Type 0
 EndAlike plan cs ds = ((length cs ≡ length plan) × (length ds ≡ length plan)) ⊎ (EndInStep cs × EndInStep ds)
 

@@ -1,4 +1,4 @@
--- Two outcomes of one plan tell the same.
+-- Two outcomes of one plan say the same.
 use Rattle.partial_replay.proofs.{Common.{ℕ, ◌≡◌, ◌<◌, ◌≤◌, ◌==◌, Bool, true, false, if◌then◌else◌, List, [], ◌∷◌, length, map, slice_index_or, Option, Some, None, refl, sym, ◌∙◌, ap, subst, inl, inr, arith, AllByRecursion, filter_map, cases_lt, eqb_tells, ext_get_or, Applied, Opening, Call, Called, IsInTime, RealTime, opening_is, PlanView, Event, AreOpeningWords, Layout, pool_base, total, record_value, Leads, words_after, fresh, step_of, HasLeastPlace, IsReplayOf, turn_lengths, Moment, event_entry, moments_from, moments_by, ports_of, events_in, turns_of, turns_by, lengths_in, MakeTurns, calls_by, steps_by, AreAllMade, HaveMade, OutcomeView}, OneList.{AreListedFrom, calls_listed, finished_but, AreMade, EndAlike, calls_same, own_call, other_call}, OneNote.notes_right, OneTrace.{moments_events, Goes, traces_same, plan_turns}, PortRuns.{PortAt, PortRun, next_at, RunOf, runs_of}, PortSteps.events_steps, TurnLengths.lengths_same}
 use Rattle.partial_replay.specs.OneOutcome.{PlansHaveOneOutcome}
 
@@ -128,7 +128,7 @@ made_of p x w q = record {
 steps_of : (p : PlanView) (x : OutcomeView) → IsReplayOf p x → (q : ℕ) → steps_by q x.calls ≡ events_in q (ports_of x.trace)
 steps_of p x w q = events_steps (fresh p.sizes q) ((w.events q).0) p.sizes.m q x.trace (calls_by q x.calls) (w.events q).1
 
--- both come to their end alike
+-- both end alike
 alike_of : (rest : Bool) (turns steps : ℕ) (plan : List Call) (cs ds : List Called) → HaveMade rest turns steps plan cs → HaveMade rest turns steps plan ds → EndAlike plan cs ds
 alike_of true turns steps plan cs ds a b = inl (a.0, b.0)
 alike_of false turns steps plan cs ds a b = elim (cases_lt steps turns) [
@@ -136,7 +136,7 @@ alike_of false turns steps plan cs ds a b = elim (cases_lt steps turns) [
   | inr from ↦ let within = a.0 in let all : steps ≡ turns = omega (arith, from, within) in inr (a.1 all, b.1 all)
 ]
 
--- outcomes that agree in all that they tell are one
+-- outcomes that agree in all that they say are one
 views_same : (a b : OutcomeView) → a.opening ≡ b.opening → a.history ≡ b.history → a.calls ≡ b.calls → a.words ≡ b.words → a.trace ≡ b.trace → a.steps ≡ b.steps → a ≡ b
 views_same a b opening history calls words trace steps =
     ap (λ (o : Opening). record { opening = o; history = a.history; calls = a.calls; words = a.words; trace = a.trace; steps = a.steps }) opening

@@ -1,4 +1,4 @@
--- A plan has one trace: each port's next step is told by its machine, its answer by the words, and the next port by the turns.
+-- A plan has one trace: its machine determines each port's next step, the words its answer, and the turns the next port.
 use Rattle.partial_replay.proofs.{Common.{ℕ, zero, suc, ◌≡◌, ◌≢◌, ◌+◌, ◌-◌, ◌<◌, ◌≤◌, ◌==◌, ◌++◌, min, Bool, true, false, if◌then◌else◌, List, [], ◌∷◌, length, map, replicate, Option, Some, None, refl, sym, ◌∙◌, ap, subst, inl, inr, arith, filter, range_with_len, ne_eqb, eqb_tells, sum_by-cons, Step, Event, Leads, answer_of, words_after, step_of, Moment, adds, moments_from, ports_of, events_in, so_many, to_its_end, made_in, left_behind, ports_in, turns_by, turns_of, PlanView, HasTurns, MakeTurns}, PortLaws.same_eqb, TurnLaws.{events_own, events_other}, PortRuns.{PortAt, PortRun, port_behind}}
 
 -- the events of port q
@@ -21,7 +21,7 @@ own_first e es q same = ap (λ (b : Bool). if b then e ∷ events_of q es else e
 other_first : (e : Event) (es : List Event) (q : ℕ) → e.port ≢ q → events_of q (e ∷ es) ≡ events_of q es
 other_first e es q other = ap (λ (b : Bool). if b then e ∷ events_of q es else events_of q es) (ne_eqb e.port q other)
 
--- the ports, of which one has come to another place
+-- the ports, of which one is at another place
 abbrev pub with_port : ℕ → PortAt → (ℕ → PortAt) → ℕ → PortAt
 with_port p at ports q = if q == p then at else ports q
 
@@ -186,7 +186,7 @@ ports_few (e ∷ es) left q =
           omega (arith, all, left', rest)
     ]
 
--- behind an entry in which a port makes all its steps it has no event
+-- after an entry in which a port makes all its steps it has no event
 none_behind : (e : ℕ × Option ℕ) (es : List (ℕ × Option ℕ)) (left : ℕ → ℕ) → made_in e.1 (left e.0) ≡ left e.0 → events_in e.0 (ports_in es (left_behind e left)) ≡ 0
 none_behind e es left all =
     let few = ports_few es (left_behind e left) e.0 in

@@ -148,7 +148,7 @@ pub none_in : (plans : List (List Call)) → calls_in plans [] ≡ []
 none_in [] = refl
 none_in (d ∷ plans) = refl
 
--- one port's calls behind those of the ports in front of it
+-- one port's calls after those of the ports in front of it
 calls_next : (plans : List (List Call)) (ports : List Port) (n : ℕ) {calls : List Call} {port : Port} → PortAt plans ports n calls port →
     calls_in plans (take (suc n) ports) ≡ (calls_in plans (take n ports) ++ port.finished.items) ++ left_over port (slice_get calls (length port.finished.items)) port.under_way
 calls_next [] ports n {calls} at = let bad : None ≡ Some calls = at.plan in cc

@@ -314,7 +314,7 @@ begun_fits {o} {log} {calls} {p} {x} {port} {new} {call} w none next served refu
     (subst (λ (l : List Called). AreFew c.sizes l) (sym done) (subst (λ (z : Layout). AreFew z port.finished.items) (sym sizes) w.bounded)) refl
     (subst (λ (f : Option UnderWay). MatchOption f (IsBetween x c) (IsCallUnderWay (length log) calls x c new.finished.items)) (sym way) going)
 
--- a call that is finished at once, and the machine behind it
+-- a call that is finished at once, and the machine after it
 record OnceEnded (o : Opening) (log : List Applied) (p number low seen : ℕ) (call : Call) (c : Called) (s t : CoreState) (x : Part) : Type 0 where
   ended : EndedCall o log p number low seen call c
   writes : wrote ended.note ≡ []
@@ -389,7 +389,7 @@ once_finished {o} {log} {p} {seen} {made} {c} {s} {t} {x} d f behind earlier bet
       sizes = ap (λ (v : CoreState). v.sizes) rests;
     }
 
--- the machine behind such a call is idle, and has the same sizes
+-- the machine after such a call is idle, and has the same sizes
 pub once_idle : {p number : ℕ} {made : Call} {seen : ℕ} {s t : CoreState} {c : Called} → IsDoneAtOnce p number made seen s t c → s.stage ≡ Idle → t.stage ≡ Idle
 once_idle d idle = elim d.done [
   | inl r ↦ ap (λ (v : CoreState). v.stage) r.rests ∙ idle
@@ -424,7 +424,7 @@ once_fits {o} {log} {calls} {p} {x} {port} {new} {call} {c} w none next d number
     (ap (λ (l : List ℕ). places_written x.notes ++ l) e.writes ∙ append-nil (places_written x.notes))
     (subst (λ (f : Option UnderWay). MatchOption f (IsBetween x new.core) (IsCallUnderWay (length log) calls x new.core new.finished.items)) (sym way) e.between)
 
--- the call that stands behind the finished ones
+-- the call that stands after the finished ones
 pub call_at_place : (calls : List Call) (done : List Called) (n : ℕ) (call : Call) → n ≡ length done → n < length calls → call ≡ slice_index_or calls n call → slice_get calls (length done) ≡ Some call
 call_at_place calls done n call same below is = ap (slice_get calls) (sym same) ∙ get_is calls n call below ∙ ap Some (sym is)
 

@@ -1,7 +1,7 @@
 -- A port of a plan as a machine of its own: which step it makes next, whatever was answered so far.
 use Rattle.partial_replay.proofs.Common.{ℕ, ◌≡◌, ◌++◌, List, [], ◌∷◌, length, map, take, Option, Some, None, refl, sym, ◌∙◌, ap, subst, inl, inr, true, arith, IsSome, is_some, option_map, option_map_or, false≢true, map-append, Call, Called, Finish, Refused, Event, Reply, Idle, CoreState, at_stage, advance, step_at, step_of, reply_of, answer_for, begun_of, refusal_of, due_is_unreplied, Moment, Makes, HasSteps, IsCallRun, AreStepsOf, AreFirstOf, AreAllMade}
 
--- the machine of a port, in the call under way or idle behind the last one, and the plan's calls behind it
+-- the machine of a port, in the call under way or idle after the last one, and the plan's calls after it
 pub record PortAt : Type 0 where
   pub core : CoreState
   pub calls : List Call
@@ -21,11 +21,11 @@ next_at s (c ∷ cs) = chosen (refusal_of s c) (reply_of (begun_of s c)) (next_a
 abbrev pub goes_at : CoreState → List Call → PortAt
 goes_at s cs = option_map_or (λ r. next_at (at_stage s Idle) cs) (reply_of s) (record { core = s; calls = cs })
 
--- the port behind an answer
+-- the port after an answer
 abbrev pub port_behind : ℕ → PortAt → PortAt
 port_behind x p = goes_at (advance p.core x) p.calls
 
--- these events are the port's due steps, one behind the other
+-- these events are the port's due steps, one after the other
 abbrev pub PortRun : PortAt → List Event → PortAt → Type 0
 PortRun p [] t = t ≡ p
 PortRun p (e ∷ es) t = (step_of p.core ≡ Some e.step) × PortRun (port_behind e.answer p) es t

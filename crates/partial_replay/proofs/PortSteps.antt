@@ -86,7 +86,7 @@ once_made {z} {n} {calls} {p} {port} {new} {c} w none d finished way =
       going = subst (λ (f : Option UnderWay). MatchOption f ((nil ≡ []) × (new.core ≡ new.core)) (IsCallGoing n calls new.finished.items new.core new.core [])) (sym way) (refl, refl);
     }
 
--- the event of a step, with the lengths of the history before and behind it
+-- the event of a step, with the lengths of the history before and after it
 abbrev moment_of : Memory → Memory → ℕ → Step → Moment
 moment_of old now p step = record { event = event_of old p step; before = length old.history.items; behind = length now.history.items }
 
@@ -172,7 +172,7 @@ other_made {n} {calls} {port} k started w = record {
   going = going_stays n k calls port.finished.items w.at port.core w.own port.under_way started w.going;
 }
 
--- how long the history is behind a trace
+-- how long the history is after a trace
 abbrev pub long_by : ℕ → ℕ → List Event → ℕ
 long_by m n es = last_behind n (moments_from m n es)
 

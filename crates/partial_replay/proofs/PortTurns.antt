@@ -21,7 +21,7 @@ turns_idle calls idle ls more port all w = record {
   way = way_longer ls more (steps_in port.finished.items) port.under_way w.way;
 }
 
--- the turn that has come is the one behind the steps of the calls so far
+-- the turn that has come is the one after the steps of the calls so far
 turn_here : (ls : List ℕ) (n k : ℕ) → length (ls ++ n ∷ []) ≡ k + 1 → slice_get (ls ++ n ∷ []) k ≡ Some n
 turn_here ls n k long = let last = length_push ls n in let same : length ls ≡ k = omega (arith, long, last) in ap (slice_get (ls ++ n ∷ [])) (sym same) ∙ slice_get_last ls n
 

@@ -1,7 +1,7 @@
--- What a replay has come to is an outcome of its plan.
+-- What a replay ends with is an outcome of its plan.
 use Rattle.partial_replay.proofs.{Common.{ℕ, Bool, true, false, if◌then◌else◌, zero, suc, ◌⊎◌, ◌≡◌, ◌<◌, ◌≤◌, ◌==◌, List, [], ◌∷◌, length, map, take, slice_index_or, Some, slice_get, refl, sym, ◌∙◌, ap, subst, inl, inr, arith, filter_map, sum_by, AllByRecursion, get_or_from_slice_get, Applied, Opening, Call, Called, LegalOutcome, Event, Layout, pool_base, record_value, Leads, Agrees, AreOpeningWords, sum_by-cons, PlanView, CoreState, fresh, AreStepsOf, most_steps, Port, Run, HasLeastPlace, event_entry, moments_from, moments_by, ports_of, events_in, turns_of, turns_by, ports_in, lengths_in, BeginInTurns, calls_by, steps_by, AreFirstOf, AreAllMade, EndInStep, HaveMade, AreFew, IsReplayOf, turn_lengths, AreStarted, IsRunOf, TellsOutcome, calls_in, StopsAtStep, StopAtSteps, IsPortDone, BeganInTurns, lengths_so_far, lawful_ports_fit, place_below, OutcomeView, ReplayState, PortAt, HasReplayed}, PortSteps.{ending_begun, steps_begun, events_steps, none_moments}, RunLaws.PartAt, RunSteps.{ports_length, part_at}, LegalOutcomes.{begun_by, few_told, least_told, run_legal, listed_at, none_listed, first_begun, all_made}, TurnLaws.{follows_ports, turns_told}, TurnLengths.lengths_same, PortTurns.turns_over, Traces.entries_told}
 
--- a place of a list is in it or behind it
+-- a place of a list is in it or past its end
 pub at_place : {A : Type 0} (xs : List A) (i : ℕ) → ((x : A) × (slice_get xs i ≡ Some x)) ⊎ (length xs ≤ i)
 at_place [] i = inr (omega arith)
 at_place (x ∷ xs) zero = inl (x, refl)
@@ -72,7 +72,7 @@ module _ {plans : List (List Call)} {s : ReplayState} (w : IsRunOf plans s) wher
       (λ l. steps_begun l.part.fits (w.made q l.calls l.port l.at) (λ v way. started q l.port v l.at.is way))
       (λ past. (fresh s.sizes q, (none_moments s.sizes.m q (length plans) s.memory.trace past w.senders, refl)))
 
-  -- each call that a port lists has begun in the turn behind the steps of those in front of it
+  -- each call that a port lists has begun in the turn after the steps of those in front of it
   pub begins_told : (q : ℕ) (ls : List ℕ) → BeganInTurns 0 plans q ls s.ports → BeginInTurns ls 0 (calls_by q listed)
   begins_told q ls begun = each_lists (λ _. BeginInTurns ls 0) q (λ l. turns_over l.calls ls l.port (begun l.calls l.port l.at)) (λ past. tt)
 
@@ -117,7 +117,7 @@ calls_wait z false turns plan cs few first less made =
     let all = take_sum (most_steps z) (length cs) plan in
     made.2 (omega (arith, steps, front, all, less))
 
--- a run that has come to its end tells an outcome of its plan
+-- a run that has ended gives an outcome of its plan
 pub replay_told : (p : PlanView) (run : Run) (outcome : OutcomeView) → HasReplayed p p.ports (turns_of p) run → (p.rest ≡ false → StopAtSteps p.steps run) → TellsOutcome p.ports run outcome →
     IsReplayOf p outcome
 replay_told p run outcome replayed ends t =

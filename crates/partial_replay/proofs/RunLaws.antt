@@ -218,7 +218,7 @@ module _ {plans : List (List Call)} {s : ReplayState} {p : ℕ} {calls : List Ca
           least = tt;
         }) refl
 
-    -- the note of the part is legal behind the others
+    -- the note of the part is legal after the others
     legal_y : (r : Reply) (n : IsNoteOf o y r leads.tells.new) → IsLegal o log2 p (seen_by 0 x.notes) (record { call = n.call; answer = answer_for core2 r; note = Some (n.note) })
     legal_y r n =
         let is : leads.tells.new ≡ record { call = n.call; answer = answer_for core2 r; note = Some (n.note) } ∷ [] =

@@ -110,12 +110,12 @@ begin_keeps {plans} {s} {p} {calls} {port} new w here keeps keeps_made =
           (subst (λ (l : List Applied). PortsFit o l 0 plans (at.before ++ at.x ∷ at.after) (slice_set s.ports p new)) (append-nil log) grown);
     }
 
--- what a step adds to the history, as it is told by the words behind it, and that the record of an exchange lies within the words
+-- what a step adds to the history, as the words after it show, and that the record of an exchange lies within the words
 pub record StepAdds (z : Layout) (m : ℕ) (words : List ℕ) (step : Step) (port : ℕ) : Type 0 where
   pub entry : entry_at m (words_after words step) port step (answer_of words step) ≡ added_by z port words step
   pub within : IsExchangeWithin m words step
 
--- a record that a won exchange publishes stands behind the component words, so the exchange leaves its value
+-- a record that a won exchange publishes stands after the component words, so the exchange leaves its value
 adds : (z : Layout) (words : List ℕ) (port : ℕ) (step : Step) → PublishesWithin z words step → ((e : Applied) → added_by z port words step ≡ e ∷ [] → z.m ≤ e.stamp) → StepAdds z z.m words step port
 adds z words port (Load w) within above = record { entry = refl; within = tt }
 adds z words port (Store w v) within above = record { entry = refl; within = tt }
@@ -173,7 +173,7 @@ most_of_call z (Call.Scan js) served = most_of_scan z js served
 most_of_call z (Call.Read j) served = omega arith
 most_of_call z (Call.UpdateIf j x v) served = omega arith
 
--- no call makes more steps than 64 bits tell
+-- no call makes more steps than 64 bits count
 update_fits : (z : Layout) → IsLayout z → most_of_update z + 1 < 2 ^ 64
 update_fits z layout =
     let m = layout.components.1 in

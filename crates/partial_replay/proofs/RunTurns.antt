@@ -1,7 +1,7 @@
 -- The turns of a replay, and the calls that the ports begin in them.
 use Rattle.partial_replay.proofs.{Common.{ℕ, suc, ◌≡◌, ◌+◌, ◌-◌, ◌<◌, ◌≤◌, ◌==◌, ◌++◌, Bool, true, false, if◌then◌else◌, List, [], ◌∷◌, length, map, slice_set, replicate, Option, Some, None, MatchOption, refl, sym, ◌∙◌, ap, subst, inl, inr, arith, append_assoc, append-nil, length-map, length-replicate, map-append, eqb_tells, Call, Event, Layout, Port, Run, Moment, moments_from, last_behind, ports_of, events_in, idle_in, lengths_of, lengths_in, HasTurned, StepMade, IsTurnReady, ChangesPortsOnly, IsSameOpening, IsPortDone, StayDone, StayStopped, StayStoppedBut, StayStoppedWith, GoesOnBy, BeganInTurns, own_turns, BeginsIn, StepsIn, GoesOnIn, moments_behind, TurnMade, StepsMade, TurnsMade, MakeTurns, HasMadeTurns, lengths_so_far, HaveBegun, Memory, state_of, PortAt, IsRunOf, Opening, PlanView, IsBetweenTurns, HasReplayed}, PortLaws.{at_set, same_at}, PortSteps.log_long, TurnLaws.{ready_done, by_more, followed, last_turns}, TurnLengths.{ports_at, befores_of, ports_moments, moments-append, behind-append, own_is, own_other, own_more, lengths_push}, PortTurns.{turns_idle, turn_steps}}
 
--- how long the history is behind further events
+-- how long the history is after further events
 long_behind : (plans : List (List Call)) (p n : ℕ) (old new : Run) → IsRunOf plans (state_of old) → IsRunOf plans (state_of new) → IsSameOpening old new → (g : GoesOnBy n p old new) →
     length new.memory.history.items ≡ last_behind (length old.memory.history.items) (moments_behind old g.events)
 long_behind plans p n old new w v same g =
@@ -38,7 +38,7 @@ done_at : {plans : List (List Call)} {ports : List Port} {p q : ℕ} {calls : Li
     length port.finished.items ≡ length calls
 done_at d at same = let one = same_at d.at at same in ap (λ (u : Port). length u.finished.items) (sym one.1) ∙ d.all ∙ ap length one.0
 
--- a port comes to its end, and any turns behind it change nothing
+-- a port reaches its end, and any turns after that change nothing
 goes_on_idle : (plans : List (List Call)) (p : ℕ) (ls more : List ℕ) (old new : Run) → IsPortDone plans new.ports.items p → GoesOnIn plans p ls old new → GoesOnIn plans p (ls ++ more) old new
 goes_on_idle plans p ls more old new d g q front w calls port at = elim (eqb_tells q p) [
   | inl is ↦

@@ -8,7 +8,7 @@ now_is_after o words h j agrees below =
     let whole : take (length h) h ≡ h = take-length h in
     ap (record_value words) ((agrees j below).0 ∙ ap (λ (l : List Applied). stamp_of o l j) (sym whole)) ∙ value_behind_stamp o words h j (length h) agrees below
 
--- behind the stamp before an entry stands the value that its component had before it
+-- after the stamp before an entry stands the value that its component had before it
 pub value_before : (o : Opening) (words : List ℕ) (h : List Applied) (k : ℕ) (e : Applied) → Agrees o words h → e.component < length o.values → slice_get h k ≡ Some e →
     record_value words (prev_of words e.stamp) ≡ values_after o h k e.component
 value_before o words h k e agrees below stands =
@@ -106,7 +106,7 @@ found_least Holds began end least shown f from within holds = record {
   least = f.none;
 }
 
--- the least place, and the marks, behind one entry less
+-- the least place, and the marks, after one entry less
 pub record IsSearched (o : Opening) (wanted : List (Option ℕ)) (marks : List Bool) (h : List Applied) (place least : ℕ) : Type 0 where
   pub marked : AreMarked wanted marks (values_after o h place)
   pub found : IsFoundFrom (λ n. AllHave wanted (values_after o h n)) place (length h) least
@@ -263,7 +263,7 @@ least_shown o h wanted components values began shown least w shows l = record {
   least = λ i from below is. l.least i from below (have_shown wanted components values (values_after o h i) w is);
 }
 
--- the front of a list that is joined behind it
+-- the front of a list that is joined after it
 pub take_front : {A : Type 0} (n : ℕ) (xs ys : List A) → length xs ≡ n → take n (xs ++ ys) ≡ xs
 take_front n xs ys is = ap (λ k. take k (xs ++ ys)) (sym is) ∙ front xs ys
   where

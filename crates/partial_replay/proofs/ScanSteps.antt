@@ -36,7 +36,7 @@ call_run z s t c x xs layout sizes w served h =
       last_sizes = run_sizes (begun_of s c.call) h.last (moment_answers (x ∷ xs)) here sound run ∙ same;
     }
 
--- the machine behind a call is sound and has the same sizes
+-- the machine after a call is sound and has the same sizes
 call_sound : (z : Layout) (s t : CoreState) (c : Called) (own : List Moment) → IsLayout z → s.sizes ≡ z → IsSound s → IsServed z.m c.call → IsCallRun s c own t → IsSound t × (t.sizes ≡ z)
 call_sound z s t c [] layout sizes w served h = elim h [
   | inl r ↦ (subst IsSound (sym r.rests) w, ap (λ (v : CoreState). v.sizes) r.rests ∙ sizes)
@@ -59,7 +59,7 @@ call_sound z s t c (x ∷ xs) layout sizes w served h =
     let r = call_run z s t c x xs layout sizes w served h in
     (subst IsSound (sym h.rests) (rests_are_sound.idle h.last r.last_sound), ap (λ (v : CoreState). v.sizes) h.rests ∙ r.last_sizes)
 
--- the reply behind the answer of a scan
+-- the reply after the answer of a scan
 scan_replied : (s : CoreState) (f : Option Reply) (vs : List ℕ) (k : ℕ) (b : Option ℕ) → option_map (answer_for s) f ≡ Some (Answer.Scanned vs k b) → f ≡ Some (Reply.Scanned k b)
 scan_replied s None vs k b e = let bad : None ≡ Some (Answer.Scanned vs k b) = e in cc
 scan_replied s (Some (Reply.Applied stamp)) vs k b e = let bad : Some (Answer.Applied stamp) ≡ Some (Answer.Scanned vs k b) = e in cc
@@ -110,7 +110,7 @@ scan_of z first front c behind xs last cut (y ∷ ys) own_is layout sizes w serv
       steps = subst (λ (l : List Moment). AreOfScan (length js) k (pairs_loaded (begun_of s c.call) (moment_answers l)) c.steps b) own_is counted;
     }
 
--- the machine behind some calls is sound and has the same sizes
+-- the machine after some calls is sound and has the same sizes
 calls_sound : (z : Layout) (s t : CoreState) (cs : List Called) (xs : List Moment) → IsLayout z → s.sizes ≡ z → IsSound s → AllByRecursion (IsServed z.m) (map (λ (c : Called). c.call) cs) →
     AreStepsOf s cs xs t → IsSound t × (t.sizes ≡ z)
 calls_sound z s t [] xs layout sizes w served h = (subst IsSound (sym h.1) w, ap (λ (v : CoreState). v.sizes) h.1 ∙ sizes)

@@ -1,7 +1,7 @@
 -- The calls of a port and their events, cut at a call.
 use Rattle.partial_replay.proofs.Common.{ℕ, ◌≡◌, ◌+◌, ◌++◌, List, [], ◌∷◌, length, take, drop, refl, sym, ◌∙◌, ap, subst, sum_by-cons, Called, CoreState, Moment, IsCallRun, AreStepsOf, steps_in, take-append_seam, take-append-add, drop-append_seam, drop-append-add}
 
--- the events of the calls in front of one, its own, and those behind it
+-- the events of the calls in front of one, its own, and those after it
 pub record IsCut (s : CoreState) (front : List Called) (c : Called) (behind : List Called) (xs : List Moment) (last : CoreState) : Type 0 where
   pub at : CoreState
   pub next : CoreState

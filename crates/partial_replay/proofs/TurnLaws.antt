@@ -1,4 +1,4 @@
--- The turns of a replay, one behind the other.
+-- The turns of a replay, one after the other.
 use Rattle.partial_replay.proofs.{Common.{ℕ, zero, suc, ◌≡◌, ◌≢◌, ◌+◌, ◌-◌, ◌<◌, ◌≤◌, ◌==◌, ◌++◌, Bool, true, false, if◌then◌else◌, List, [], ◌∷◌, length, slice_index_or, map, take, replicate, slice_set, Option, Some, None, slice_get, refl, sym, ◌∙◌, ap, subst, inl, inr, arith, append_assoc, length-append, MatchOption, filter, range_with_len, filter-append, sum_by-cons, sum_by-append, so_many, to_its_end, made_in, ports_in, turns_by, turns_of, left_behind, PlanView, AreAllMade, EndInStep, HaveMade, Called, take_all, append-nil, map_push, map-append, length-replicate, replicate-append-replicate, ne_eqb, cases_lt, eqb_tells, Call, Event, StepMade, Port, Run, ports_of, events_in, IsTurnReady, IsPortDone, GoesOnBy, TurnsMade, StopAtSteps, HasTurns, MakeTurns, HasMadeTurns, some_same, Memory, event_of, PortAt}, PortLaws.{get_set, get_set_other, same_at, take_next, get_is, same_eqb}}
 
 -- a port in another state: the ports that have made all their calls have still made them where this one has
@@ -101,7 +101,7 @@ range_push a (suc n) =
 pub next_steps : (steps : List (ℕ × ℕ)) (i : ℕ) (e : ℕ × ℕ) → slice_get steps i ≡ Some e → map so_many (take (i + 1) steps) ≡ map so_many (take i steps) ++ so_many e ∷ []
 next_steps steps i e s = ap (map so_many) (take_next steps i e s) ∙ map_push so_many (take i steps) e
 
--- all entries are behind
+-- all entries are past
 pub all_steps : (steps : List (ℕ × ℕ)) (i : ℕ) → length steps ≤ i → map so_many (take i steps) ≡ map so_many steps ++ []
 all_steps steps i past = ap (map so_many) (take_all i steps past) ∙ sym (append-nil (map so_many steps))
 
@@ -129,7 +129,7 @@ made_is D q (Some k) n left behind is h = elim (cases_lt n k) [
   | inr from ↦ let within = h.0 in omega (arith, is, within, from)
 ]
 
--- what each port has left behind an entry is what it makes behind it
+-- what each port has left after an entry is what it makes after it
 pub left_same : (D : ℕ → Type 0) (e : ℕ × Option ℕ) (n : ℕ) (behind : List ℕ) (left : ℕ → ℕ) → ((q : ℕ) → left q ≡ events_in q (replicate n e.0 ++ behind)) → HasTurns D e.0 e.1 n behind →
     (made_in e.1 (left e.0) ≡ n) × ((q : ℕ) → left_behind e left q ≡ events_in q behind)
 left_same D e n behind left all h =

@@ -46,7 +46,7 @@ begin_push ls turn (d ∷ cs) c w here =
     let same : turn + d.steps + steps_in cs ≡ turn + steps_in (d ∷ cs) = omega (arith, sum) in
     (w.0, begin_push ls (turn + d.steps) cs c w.1 (ap (slice_get ls) same ∙ here))
 
--- the moments at the front, and those behind them
+-- the moments at the front, and those after them
 front_of : (xs ys : List ℕ) (n p : ℕ) → xs ≡ replicate n p ++ ys → n ≤ length xs
 front_of xs ys n p is =
     let all : length xs ≡ length (replicate n p) + length ys = ap length is ∙ length-append (replicate n p) ys in
@@ -114,7 +114,7 @@ lengths_push D E (e ∷ es) xs own s p n k q left left' same same' ports none la
     ∙ ap (λ (l : List Moment). (own_turns q e.0 (lengths_of e.1 s l) ++ lengths_in q es (left_behind e left) (last_behind s l) (drop (made_in e.1 (left e.0)) xs)) ++
     own_turns q p (lengths_of k (last_behind s xs) own)) (sym head_is)
 
--- the lengths are told by what each port has left
+-- what each port has left determines the lengths
 pub lengths_same : (q : ℕ) (es : List (ℕ × Option ℕ)) (left left' : ℕ → ℕ) (n : ℕ) (xs : List Moment) → ((r : ℕ) → left r ≡ left' r) → lengths_in q es left n xs ≡ lengths_in q es left' n xs
 lengths_same q [] left left' n xs same = refl
 lengths_same q (e ∷ es) left left' n xs same =

@@ -44,7 +44,7 @@ module _ (z : Layout) (o : Opening) (words : List ℕ) (before : List Holding) (
     unfolding claimed
     other k differs = get_or-set_other words (counter_of z space) k ((slice_index words (counter_of z space) + length block) % 2 ^ 64) 0 differs
 
-    -- a counter is where it was, or behind the block
+    -- a counter is where it was, or after the block
     counter_now : (c : Counted) (s : Space) → (slice_index claimed (counter_of z s) ≡ slice_index words (counter_of z s) + length block) → ((k : ℕ) → k ≢ counter_of z s → slice_index claimed k ≡ slice_index words k) →
         slice_index words (counter_of z s) + length block ≤ end_of z s → (slice_index words (counter z c).word ≤ slice_index claimed (counter z c).word) ×
         ((n : ℕ) → slice_index words (counter z c).word ≤ (counter z c).end + n → slice_index claimed (counter z c).word ≤ (counter z c).end + n)

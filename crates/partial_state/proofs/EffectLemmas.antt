@@ -7,7 +7,7 @@ pub record IsNew (z : Layout) (o : Opening) (words : List ℕ) (hs : List Holdin
   pub fresh : HasFreshView z o words (unpublished hs) log k e.stamp
   pub covering : CoversAll z words hs log e.stamp
 
--- What a step changes of lawful words, where its port holds h before and h' behind it.
+-- What a step changes of lawful words, where its port holds h before and h' after it.
 pub record Changes (z : Layout) (o : Opening) (words words' : List ℕ) (before : List Holding) (h h' : Holding) (after : List Holding) (log log' : List Applied) : Type 0 where
   pub moves : Moves z words words' h h'
   pub grows : Grows o log log'

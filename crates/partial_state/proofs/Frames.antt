@@ -10,7 +10,7 @@ word_at w = record { at = w; size = 1 }
 abbrev pub IsClaimedBlock : Layout → List ℕ → Block → Type 0
 IsClaimedBlock z words b = ((b.at + b.size ≤ list_end z) × (b.at + b.size ≤ slice_index words (list_counter z))) ⊎ ((pool_base z ≤ b.at) × (b.at + b.size ≤ slice_index words (pool_counter z)))
 
--- A step leads from words to words', and the blocks that aren't published are us before and us' behind it: the
+-- A step leads from words to words', and the blocks that aren't published are us before and us' after it: the
 -- counters don't fall, no published word changes nor is any more one of an unpublished block, and a vacated slot stays so.
 pub record Frame (z : Layout) (words words' : List ℕ) (us us' : List Block) : Type 0 where
   pub count : length words' ≡ length words

@@ -205,7 +205,7 @@ block_stays words words' stamp same =
         ap (λ (t : Bool). record { at = stamp; size = (if t then full_record_size (view_len words' (own_view stamp)) else plain_record_size) }) e ∙
         sym (ap (λ (t : Bool). record { at = stamp; size = (if t then full_record_size (view_len words (own_view stamp)) else plain_record_size) }) e)
 
--- a port's own block lies behind the slots
+-- a port's own block lies after the slots
 pub own_far : (z : Layout) (words : List ℕ) (b : Own) → IsOwn z words b → list_base z ≤ b.at
 own_far z words b w = far b.space b.at w.above
   where

@@ -1,4 +1,4 @@
--- The steps that change no block and no slot: an exchange comes to be due, a block is given up, and claims that are refused.
+-- The steps that change no block and no slot: an exchange becomes due, a block is given up, and claims that are refused.
 use Rattle.partial_state.proofs.{Common.{ℕ, ◌≡◌, ◌≢◌, ◌+◌, ◌<◌, ◌≤◌, ◌++◌, ◌^◌, ◌%◌, true, List, ◌∷◌, slice_index, slice_set, Option, Some, None, IfSome, refl, sym, ◌∙◌, ap, subst, arith, get_or-set_other, get_or-set_same, length-set, Applied, Layout, slot_counter, list_head, slot_word, list_base, pool_end, Block, AreApart, Own, Holding, block_of, blocks_in, joined_in, EachTwo, IsSpare, IsTied, DuesAreKept, DropsAreKept, greatest_claim, greatest_list, Counted, ListWords, PoolWords, RefusalsAreKept, Slots, counter, is_marked, marked_for, marked_ports, ◌*◌, ◌⊎◌, Opening, inl, inr, false, IsOwn, LawfulWords, IsKept}, ListLemmas.{all_at, two_take}, Frames.apart_turns, HoldingLemmas.{IsFreeOf, marks_kept}, Blocks.{unpublished_same, announced_same, own_added, blocks_same, own_block_added}, Rebuild.{Moves, own_stays, spare_moves}, NoNewEntry.{calm, fits_word, head_stays, due_here, due_stays, high_stays, high_rises, marked_stays, counter_bound}}
 
 -- the words stay
@@ -77,7 +77,7 @@ end_of_counter z PoolWords = omega arith
 end_of_counter z Slots = omega arith
 end_of_counter z ListWords = omega arith
 
--- a port that comes to be marked for one counter has the same marks for the others
+-- a port that becomes marked for one counter has the same marks for the others
 other_marks : (z : Layout) (c : Counted) (h : Holding) (d : Counted) → (d ≡ c) ⊎ (((counter z d).word ≢ (counter z c).word) × (is_marked d (marked_for c h) ≡ is_marked d h))
 other_marks z PoolWords h PoolWords = inl refl
 other_marks z PoolWords h Slots = inr ((λ e. omega (arith, e)), refl)

@@ -46,13 +46,13 @@ module _ (z : Layout) (words words' : List ℕ) (before : List Holding) (h h' : 
       slice_index words' (counter z c).word ≤ (counter z c).end + (counter z c).greatest * marked_ports c (before ++ h' ∷ after)
   high_stays c same w = subst (λ m. slice_index words' (counter z c).word ≤ (counter z c).end + (counter z c).greatest * m) (sym (marks_same c before h h' after same)) w
 
-  -- and one that the port comes to be marked for
+  -- and one for which the port becomes marked
   pub high_rises : (c : Counted) → is_marked c h ≡ false → is_marked c h' ≡ true →
       slice_index words' (counter z c).word ≤ (counter z c).end + (counter z c).greatest * marked_ports c (before ++ h ∷ after) + (counter z c).greatest →
       slice_index words' (counter z c).word ≤ (counter z c).end + (counter z c).greatest * marked_ports c (before ++ h' ∷ after)
   high_rises c off on w = subst (λ m. slice_index words' (counter z c).word ≤ (counter z c).end + (counter z c).greatest * m) (sym (marks_more c before h h' after off on)) (omega (arith, w))
 
-  -- where no counter falls, a marked port stays behind its end
+  -- where no counter falls, the counter of a marked port stays past its end
   pub marked_stays : ((c : Counted) → is_marked c h' ≡ is_marked c h) → ((c : Counted) → slice_index words (counter z c).word ≤ slice_index words' (counter z c).word) →
       ((c : Counted) → is_marked c h ≡ true → (counter z c).end < slice_index words (counter z c).word) →
       (c : Counted) → is_marked c h' ≡ true → (counter z c).end < slice_index words' (counter z c).word

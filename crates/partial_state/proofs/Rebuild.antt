@@ -2,7 +2,7 @@
 use Rattle.partial_state.proofs.{Common.{ℕ, ◌≡◌, ◌≢◌, ◌+◌, ◌<◌, ◌≤◌, ◌++◌, List, [], ◌∷◌, length, map, slice_index, Option, Some, IfSome, slice_get, sym, ◌∙◌, ap, subst, arith, AllByRecursion, Applied, Opening, initial_stamp, Layout, slot_word, list_base, pool_base, prev_of, Agrees, IsLink, IsChain, chain_of, Block, AreApart, Own, Holding, Space, counter_of, block_of, block_at, announcements, unpublished, blocks_in, EachTwo, Pool, Lists, LawfulWords, IsOwn, IsSpare, IsTied, IsEntry, AllByRecursion-get, all_where, initial_words, first_free, value_word, record_value, prev_word, plain_record_size, chain_all, Counted, ListWords, PoolWords, counter}, ListLemmas.{all_at, all_before, all_after, all_join, two_before, two_after, map_same}, Frames.{Frame, IsClaimedBlock, word_at, part_apart}, Claimed.{unpublished_two, entry_free, initial_free}, HoldingLemmas.{IsFreeOf, own_far, if_some, if_some_at, all_unpublished, unpublished_all, HaveOtherBlocks, apart_others, blocks_turn, three_words, block_stays}}
 use Rattle.partial_words.specs.declared.record.Link.{Link}
 
--- What a step does to the words of others, where its port holds h before and h' behind it.
+-- What a step does to the words of others, where its port holds h before and h' after it.
 pub record Moves (z : Layout) (words words' : List ℕ) (h h' : Holding) : Type 0 where
   pub port : h'.port ≡ h.port
   pub count : length words' ≡ length words

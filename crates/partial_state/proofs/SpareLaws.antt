@@ -1,4 +1,4 @@
--- The steps on spare words, by which no word changes: a block comes to be them, and a block is taken from them.
+-- The steps on spare words, by which no word changes: a block becomes them, and a block is taken from them.
 use Rattle.partial_state.proofs.{Common.{ℕ, ◌≡◌, ◌+◌, ◌-◌, ◌≤◌, ◌++◌, List, ◌∷◌, length, Option, Some, None, refl, ◌∙◌, ap, subst, inl, arith, option_map, joined_in, AllByRecursion, Applied, Layout, Block, AreApart, Own, Holding, block_of, announcements, unpublished, blocks_in, EachTwo, Pool, IsOwn, IsTied, IsDue, without_block, SparesAreKept, TakesAreKept}, ListLemmas.{Adds, all_at, all_less, all_more, all_weaker, two_take, two_put}, Frames.{apart_turns, part_apart}, HoldingLemmas.{if_some_at, none_here, own_in_pool, marks_kept}, Blocks.{announced_same, unspared, spare_added, unspared_same, blocks_with, block_added, own_added, own_block_added}, NoNewEntry.{calm, head_stays, high_stays, marked_stays}, MarkLaws.still_moves}
 
 -- what is apart from a block is apart from each part of it

@@ -49,7 +49,7 @@ ClaimsAreKept =
     IsKept z o words before h after log (words_after words (Add (counter_of z space) (length block)))
     (record h { own = Some (record { space = space; at = slice_index words (counter_of z space); words = block; stored = 0 }) }) log
 
--- a block of the pool that the port writes comes to be its spare words, in place of those that it had
+-- a block of the pool that the port writes becomes its spare words, in place of those that it had
 abbrev pub SparesAreKept : Type 0
 SparesAreKept =
     (z : Layout) (o : Opening) (words : List ℕ) (before : List Holding) (h : Holding) (after : List Holding) (log : List Applied)

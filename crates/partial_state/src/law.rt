@@ -14,7 +14,7 @@ pub fn claims_are_kept()
     ensures { ClaimsAreKept }
 {}
 
-/// A block of the pool that a port writes comes to be its spare words.
+/// A block of the pool that a port writes becomes its spare words.
 pub fn spares_are_kept()
     ensures { SparesAreKept }
 {}

@@ -7,6 +7,7 @@ use Rattle.partial_table.specs.declared.counted.Counted.{Counted}
 abbrev pub counted : {V : Type 0} → V → ℕ → Counted V
 counted v n = record { view = v; steps = n }
 
+-- the view without its count
 abbrev pub plain_view : {V : Type 0} → Counted V → V
 plain_view c = c.view
 

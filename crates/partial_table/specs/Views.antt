@@ -21,5 +21,6 @@ pub record TableView (K : Type 0) : Type 0 where
   pub table_id : TableId
   pub key : K
 
+-- a table with that identity and that key
 abbrev pub table_view : {K : Type 0} → TableId → K → TableView K
 table_view table key = record { table_id = table; key = key }

@@ -101,7 +101,7 @@ semicolon_calls : (m : ℕ) (cs : List Call) → AllByRecursion (IsCall m) cs �
 semicolon_calls m [] fits = tt
 semicolon_calls m (c ∷ cs) fits = (semicolon_call m c fits.0, semicolon_calls m cs fits.1)
 
--- the bytes behind the word of a port line
+-- the bytes after the word of a port line
 abbrev port_behind : List Call → List ℕ
 port_behind [] = []
 port_behind (c ∷ cs) = 32 ∷ (call_text c ++ flat_map next_call cs)
@@ -277,7 +277,7 @@ HasNo-steps ports es rest few fits =
     subst (HasNo 10) (sym (steps_is es rest)) (HasNo-append 10 (codes "steps") (behind_each 32 (turn_fields es rest)) (refl, (refl, (refl, (refl, (refl, tt)))))
     (HasNo-behind 10 (turn_fields es rest) refl (HasNo-turns 10 ports es rest newline_no_digit refl (refl, (refl, (refl, (refl, tt)))) few fits)))
 
--- the lines of ports and turns, with nothing behind the last newline
+-- the lines of ports and turns, with nothing after the last newline
 abbrev last_lines : List (List Call) → List ℕ → List (List ℕ)
 last_lines ports last = map port_line ports ++ last ∷ [] ∷ []
 

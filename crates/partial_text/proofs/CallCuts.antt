@@ -80,7 +80,7 @@ texts_not_found xs i le none so_far =
     let left : i + length (drop i xs) ≡ length xs = omega (arith, length-drop i xs) in
     texts_end xs (i + length (drop i xs)) (omega arith) (texts_past xs i (length (drop i xs)) (omega arith) nowhere so_far)
 
--- behind a semicolon and a space
+-- after a semicolon and a space
 pub behind_cut : (xs : List ℕ) → 2 ≤ length xs → call_texts_behind xs ≡ call_texts (drop 2 xs)
 behind_cut [] h = absurd (omega arith)
 behind_cut (x ∷ []) h = absurd (omega arith)

@@ -7,7 +7,7 @@ cut_step : (b : Bool) (c x : ℕ) (xs : List ℕ) → pieces c xs ≡ until c xs
 cut_step true c x xs h = refl
 cut_step false c x xs h = ap (onto_first x) h
 
--- the first piece, and those behind the first separator
+-- the first piece, and those after the first separator
 pub pieces-cut : (c : ℕ) (xs : List ℕ) → pieces c xs ≡ until c xs ∷ pieces_behind c (from c xs)
 pieces-cut c [] = refl
 pieces-cut c (x ∷ xs) = cut_step (x == c) c x xs (pieces-cut c xs)
@@ -91,7 +91,7 @@ first_some false x ps [] h = refl
 first_some false x ps (q ∷ []) h = refl
 first_some false x ps (q ∷ r ∷ qs) h = refl
 
--- nothing stands behind a line where no byte does
+-- no line follows where no byte does
 pub is_end_pieces : (c : ℕ) (xs : List ℕ) → is_end (pieces c xs) ≡ nat_eq (length xs) 0
 is_end_pieces c [] = refl
 is_end_pieces c (x ∷ xs) = first_some (x == c) x (pieces c xs) (pieces c xs) (pieces_some c xs) ∙ sym (some_length x xs)

@@ -48,7 +48,7 @@ numbers_again line most found [] small le = ap Ok (sym (append-nil found))
 numbers_again line most found (n ∷ ns) small le =
     rw (number_at_again line most n small le.0) (numbers_again line most (found ++ n ∷ []) ns small le.1 ∙ ap Ok (append_assoc found (n ∷ []) ns))
 
--- numbers behind a space each, as fields
+-- numbers after a space each, as fields
 pub behind_numbers : (ns : List ℕ) → behind_each 32 (map decimal ns) ≡ flat_map number_field ns
 behind_numbers ns = flat_map-map (λ (p : List ℕ). 32 ∷ p) decimal ns
 
@@ -72,7 +72,7 @@ pub HasNo-fields : (c : ℕ) (ns : List ℕ) → IsNoDigit c → nat_eq 32 c ≡
 HasNo-fields c [] none apart small = tt
 HasNo-fields c (n ∷ ns) none apart small = (apart, HasNo-append c (decimal n) (flat_map number_field ns) (HasNo-decimal c n none small.0) (HasNo-fields c ns none apart small.1))
 
--- a line or a call with this first field is the field and the others behind a space each
+-- a line or a call with this first field is the field and the others after a space each
 pub with_word : (word text : List ℕ) → bytes_eq (until 32 text) word ≡ true → text ≡ word ++ behind_each 32 (fields_of text)
 with_word word text same = joined_is 32 text ∙ ap (λ (w : List ℕ). w ++ behind_each 32 (fields_of text)) ((bytes_eq-Decides (until 32 text) word).0 same)
 

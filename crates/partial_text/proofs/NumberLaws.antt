@@ -24,7 +24,7 @@ bound f (Some x) y e = (x, refl, e)
 same_some : {A : Type 0} (x y : A) → Some x ≡ Some y → x ≡ y
 same_some x y e = cc
 
--- what one digit more tells
+-- what one digit more says
 digit_taken : (most n c m : ℕ) → with_digit most n c ≡ Some m → (48 ≤ c) × (c ≤ 57) × (m ≡ n * 10 + (c - 48)) × (m ≤ most)
 digit_taken most n c m e =
     let t = some_if (is_ascii_digit c && nat_le (n * 10 + (c - 48)) most) (n * 10 + (c - 48)) m e in

@@ -1,7 +1,7 @@
 -- The pieces of a text joined again are the text, and the pieces of joined pieces are these pieces.
 use Rattle.partial_text.proofs.{Common.{◌≡◌, ℕ, Bool, true, false, if◌then◌else◌, nat_eq, ◌==◌, List, [], ◌∷◌, ◌++◌, refl, sym, ap, ◌∙◌, arith, flat_map, AllByRecursion, append-nil, eqb-true, until, from, onto_first, pieces, pieces_behind, eqb_refl}, Cuts.pieces-cut, NumberLaws.HasNo}
 
--- each piece behind a separator
+-- each piece after a separator
 abbrev pub behind_each : ℕ → List (List ℕ) → List ℕ
 behind_each c ps = flat_map (λ (p : List ℕ). c ∷ p) ps
 
@@ -21,7 +21,7 @@ pieces_step : (b : Bool) (c x : ℕ) (xs : List ℕ) → nat_eq x c ≡ b → be
 pieces_step true c x xs same h = ap (λ (l : List ℕ). c ∷ l) (h ∙ ap (λ (y : ℕ). y ∷ xs) (sym (eqb-true x c same)))
 pieces_step false c x xs same h = behind_onto c x (pieces c xs) xs h
 
--- each piece behind a separator is the text behind one
+-- each piece after a separator is the text after one
 pub behind_pieces : (c : ℕ) (xs : List ℕ) → behind_each c (pieces c xs) ≡ c ∷ xs
 behind_pieces c [] = refl
 behind_pieces c (x ∷ xs) = pieces_step (x == c) c x xs refl (behind_pieces c xs)
@@ -35,7 +35,7 @@ pub behind_from : (c : ℕ) (xs : List ℕ) → behind_each c (pieces_behind c (
 behind_from c [] = refl
 behind_from c (x ∷ xs) = from_step (x == c) c x xs refl (behind_from c xs)
 
--- a text is its first piece, and each other one behind a separator
+-- a text is its first piece, and each other one after a separator
 pub joined_is : (c : ℕ) (xs : List ℕ) → xs ≡ until c xs ++ behind_each c (pieces_behind c (from c xs))
 joined_is c xs = sym (until_from c xs) ∙ ap (λ (l : List ℕ). until c xs ++ l) (sym (behind_from c xs))
 

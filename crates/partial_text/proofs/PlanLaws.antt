@@ -15,7 +15,7 @@ text_from_behind (l ∷ ls) xs h = cc
 pub text_of_pieces : (xs : List ℕ) → text_of (pieces 10 xs) ≡ xs
 text_of_pieces xs = text_from_behind (pieces 10 xs) xs (behind_pieces 10 xs)
 
--- a line that is there is ended, and the others come behind it
+-- a line that is there is ended, and the others come after it
 line_ok : (line : ℕ) (ls : List (List ℕ)) (x : List ℕ × List (List ℕ)) → line_at line ls ≡ Ok x → text_of ls ≡ ended_line x.0 ++ text_of x.1
 unfolding line_at
 line_ok line [] x e = absurd cc
@@ -32,7 +32,7 @@ end_is ((x ∷ l) ∷ ls) h = absurd cc
 abbrev pub ended_port : List Call → List ℕ
 ended_port cs = ended_line (port_line cs)
 
--- the ports and the turns that lines give behind the ports so far
+-- the ports and the turns that lines give after the ports so far
 pub record Tails (m : ℕ) (found : List (List Call)) (t : Tail) (ls : List (List ℕ)) : Type 0 where
   pub more : List (List Call)
   pub whole : t.ports ≡ found ++ more

@@ -1,4 +1,4 @@
--- How what is told piece by piece comes together.
+-- How a text that is given piece by piece is put together.
 use Rattle.partial_text.proofs.Common.{◌≡◌, ℕ, ◌+◌, Bool, true, false, List, [], ◌++◌, length, take, Option, refl, sym, ap, subst, ◌∙◌, append_assoc, append-nil, arith, take_all, cases_lt, inl, inr, Result, Ok, Err, Appends}
 use Rattle.std.specs.Prelude.{⊤, ◌↔◌, MatchBool, OnOk, OnErr, IfErr, IsErrOf}
 use Rattle.partial_text.specs.declared.fault.OutcomeError.{OutcomeError}
@@ -14,16 +14,16 @@ part_of_more n text bytes =
       | inr most ↦ (n, sym (take-append-le n text bytes most))
     ]
 
--- what is told in two pieces is told
+-- a text that is given in two pieces is given
 pub tells_then : (a b c : Telling) (xs ys : List ℕ) → TellsBytes a xs b → TellsBytes b ys c → TellsBytes a (xs ++ ys) c
 tells_then a b c xs ys p q =
     record { behind = λ before text told. subst (λ (t : List ℕ). IsTold before t c) (append_assoc text xs ys) (q.behind before (text ++ xs) (p.behind before text told)) }
 
--- what is told in two pieces, of which the second one has two, is told
+-- so is one that is given in two pieces, of which the second one has two
 pub tells_more : (a b c : Telling) (xs ys zs : List ℕ) → TellsBytes a xs b → TellsBytes b (ys ++ zs) c → TellsBytes a ((xs ++ ys) ++ zs) c
 tells_more a b c xs ys zs p q = subst (λ (t : List ℕ). TellsBytes a t c) (sym (append_assoc xs ys zs)) (tells_then a b c xs (ys ++ zs) p q)
 
--- what is told piece by piece
+-- a text that is given piece by piece
 pub ruleset tellings = (tells_then, tells_more)
 
 told_behind : (before : Option (List ℕ)) (text gathered bytes : List ℕ) (written : Option (List ℕ)) (failed : Bool) →
@@ -33,17 +33,17 @@ told_behind before text gathered bytes written false told = (told.0, told.1, ap 
 told_behind before text gathered bytes written true told =
     let more = part_of_more told.0 text bytes in (more.0, subst (λ (t : List ℕ). Appends before written t) more.1 told.1)
 
--- what is gathered is told
+-- what is gathered is given
 pub tells_gathered : (gathered bytes : List ℕ) (written : Option (List ℕ)) (failed : Bool) →
     TellsBytes (record { gathered = gathered; written = written; failed = failed }) bytes (record { gathered = gathered ++ bytes; written = written; failed = failed })
 tells_gathered gathered bytes written failed = record { behind = λ before text told. told_behind before text gathered bytes written failed told }
 
--- once a write has failed, bytes are told by writing nothing
+-- once a write has failed, bytes are given by writing nothing
 pub tells_unwritten : (bytes : List ℕ) (written : Option (List ℕ)) →
     TellsBytes (record { gathered = []; written = written; failed = true }) bytes (record { gathered = []; written = written; failed = true })
 tells_unwritten bytes written = record { behind = λ before text told. told_behind before text [] bytes written true told }
 
--- bytes that are written are told
+-- bytes that are written are given
 tells_written : (bytes : List ℕ) (old new : Option (List ℕ)) → Appends old new bytes →
     TellsBytes (record { gathered = []; written = old; failed = false }) bytes (record { gathered = []; written = new; failed = false })
 tells_written bytes old new more = record {
@@ -54,7 +54,7 @@ tells_written bytes old new more = record {
   );
 }
 
--- bytes are told by a write that fails behind a part of them
+-- bytes are given by a write that fails after a part of them
 tells_part : (bytes : List ℕ) (n : ℕ) (old new : Option (List ℕ)) → Appends old new (take n bytes) →
     TellsBytes (record { gathered = []; written = old; failed = false }) bytes (record { gathered = []; written = new; failed = true })
 tells_part bytes n old new more = record {
@@ -78,7 +78,7 @@ tells_handed_on gathered written true new p stopped = record {
       subst (λ (s : Telling). IsTold before (text ++ []) s) (sym (stopped refl)) (told.0, subst (λ (t : List ℕ). Appends before written (take told.0 t)) (sym (append-nil text)) told.1);
 }
 
--- bytes are told by writing them, whether that succeeds or fails
+-- bytes are given by writing them, whether that succeeds or fails
 pub tells_put : {T : Type 0} (bytes : List ℕ) (old new : Option (List ℕ)) (failed : Bool) (result : Result T OutcomeError) → OnOk result (Appends old new bytes) →
     OnErr result ((n : ℕ) × Appends old new (take n bytes)) → (IsErrOf result OutcomeError.Write ↔ (failed ≡ true)) → (IsErrOf result OutcomeError.OutOfMemory → ⊥) →
     TellsBytes (record { gathered = []; written = old; failed = false }) bytes (record { gathered = []; written = new; failed = failed })
@@ -103,7 +103,7 @@ tells_all gathered bytes old new false failed middle none start p q =
     (q.behind old bytes (p.behind old [] ([], Appends_none old, sym none))))
 tells_all gathered bytes old new true failed middle none start p q = absurd (subst (λ (b : Bool). MatchBool b ⊤ ⊥) start tt)
 
--- what is told up to the end, with nothing left gathered, is written
+-- what is given up to the end, with nothing left gathered, is written
 pub tells_ok : {T : Type 0} (gathered bytes : List ℕ) (old new : Option (List ℕ)) (started failed : Bool) (middle : Telling) (result : Result T OutcomeError) →
     gathered ≡ [] → started ≡ false → TellsBytes (record { gathered = gathered; written = old; failed = started }) bytes middle →
     TellsBytes middle [] (record { gathered = []; written = new; failed = failed }) → OnOk result (failed ≡ false) → OnOk result (Appends old new bytes)

@@ -67,6 +67,7 @@ in_range s =
     (if nat_le (initial_words s) s.pool && nat_le s.pool 4194304 then Ok s else Err (PlanError.Size SizeError.Pool)) else
     Err (PlanError.Size SizeError.Lists)) else Err (PlanError.Size SizeError.Slots)) else Err (PlanError.Size SizeError.Components)
 
+-- four sizes in their ranges, as the fields of the first line
 unfoldable pub sizes_from : List (List ℕ) → Result Layout PlanError
 sizes_from fields = do
   f ← ok_or (exactly_four fields) (PlanError.Line 1 Cause.Count)
@@ -76,9 +77,11 @@ sizes_from fields = do
   pool ← number_at 1 greatest_index f.3
   in_range (record { m = m; slots = slots; lists = lists; pool = pool })
 
+-- the sizes that the first line is, by its word
 unfoldable pub sizes_at : List ℕ → Result Layout PlanError
 sizes_at l = if bytes_eq (until 32 l) (codes "sizes") then sizes_from (fields_of l) else Err (PlanError.Line 1 Cause.Word)
 
+-- the values that the second line is, one for each of m components
 unfoldable pub initial_at : ℕ → List ℕ → Result (List ℕ) PlanError
 initial_at m l = if bytes_eq (until 32 l) (codes "initial") then
     (if length (fields_of l) == m then numbers_at 2 greatest [] (fields_of l) else Err (PlanError.Line 2 Cause.Count)) else Err
@@ -86,6 +89,7 @@ initial_at m l = if bytes_eq (until 32 l) (codes "initial") then
 
 -- ---- calls
 
+-- an update, by its two fields
 unfoldable pub update_from : ℕ → List (List ℕ) → Result Call PlanError
 update_from line fields = do
   f ← ok_or (exactly_two fields) (PlanError.Line line Cause.Count)
@@ -99,12 +103,14 @@ scan_from m line fields =
     if nat_lt m (length fields) then Err (PlanError.Line line Cause.Count) else
     (numbers_at line greatest_index [] fields >>= λ js. Ok (Call.Scan js))
 
+-- a read, by its one field
 unfoldable pub read_from : ℕ → List (List ℕ) → Result Call PlanError
 read_from line fields = do
   f ← ok_or (exactly_one fields) (PlanError.Line line Cause.Count)
   j ← number_at line greatest_index f
   Ok (Call.Read j)
 
+-- a conditional update, by its three fields
 unfoldable pub update_if_from : ℕ → List (List ℕ) → Result Call PlanError
 update_if_from line fields = do
   f ← ok_or (exactly_three fields) (PlanError.Line line Cause.Count)
@@ -214,6 +220,7 @@ tail_at m line found (l ∷ k ∷ ls) =
     if bytes_eq (until 32 l) (codes "port") then (more_ports m line found (from 32 l) >>= λ ports. tail_at m (line + 1) ports (k ∷ ls))
     else (last_at line (length found) l (k ∷ ls) >>= λ steps. Ok (record { ports = found; steps = steps.0; rest = steps.1 }))
 
+-- the plan that these lines are, or their first fault
 unfoldable pub lines_judged : List (List ℕ) → Result PlanView PlanError
 lines_judged lines = do
   first ← line_at 1 lines

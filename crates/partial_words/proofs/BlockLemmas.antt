@@ -2,7 +2,7 @@
 use Rattle.partial_words.proofs.{Common.{ℕ, suc, ◌≡◌, ◌+◌, ◌-◌, ◌*◌, ◌/◌, ◌%◌, ◌<◌, List, ◌∷◌, length, slice_index_or, slice_index, ◌∙◌, sym, ap, arith, flat_map, pair_words, StandsAt}, RecordLemmas.{length-pairs, pairs_even, pairs_odd, word_even, word_odd}}
 use Rattle.partial_words.specs.{Announcement.{announcement_block, ReadsBackAnnouncement}, VacatedList.{list_block, ReadsBackList}}
 
--- the word behind the first
+-- the word after the first
 word_behind : (n k : ℕ) (rest : List ℕ) → slice_index (n ∷ rest) (k + 1) ≡ slice_index rest k
 word_behind n k rest = let next : k + 1 ≡ suc k = omega arith in ap (λ i. slice_index (n ∷ rest) i) next
 

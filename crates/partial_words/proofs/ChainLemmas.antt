@@ -137,7 +137,7 @@ stamp_stands o words h j a agrees below =
     link_stands words (slice_index words j) (chain_of o j h) (newest o j (last_from None j (take a h))) (agrees j below).1
     (among_later (newest o j (last_from None j (take a h))) (record { stamp = initial_stamp o j; value = slice_index o.values j } ∷ []) j h a (newest_among o j (take a h)))
 
--- behind each stamp that a component has had stands the value that it had with it
+-- after each stamp that a component has had is the value that it had with it
 pub value_behind_stamp : (o : Opening) (words : List ℕ) (h : List Applied) (j a : ℕ) → Agrees o words h → j < length o.values →
     record_value words (stamp_of o (take a h) j) ≡ value_after o (take a h) j
 value_behind_stamp o words h j a agrees below = (stamp_stands o words h j a agrees below).value

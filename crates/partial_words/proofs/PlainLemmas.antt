@@ -14,7 +14,7 @@ length_zeros n = length-replicate {A = ℕ} n 0
 pub all_words : (xs : List ℕ) (n : ℕ) → length xs ≤ n → length (xs ++ replicate (n - length xs) 0) ≡ n
 all_words xs n f = omega (arith, length-append xs (replicate (n - length xs) 0), length_zeros (n - length xs))
 
--- zeros behind a list change no element of it that is asked for, since one that isn't there counts as 0
+-- zeros after a list change no element of it that is asked for, since one that isn't there counts as 0
 zeros : (k j : ℕ) → ◌≡◌ {A = ℕ} (slice_index (replicate k 0) j) 0
 zeros zero j = refl
 zeros (suc k) zero = refl
@@ -25,7 +25,7 @@ zeros_behind [] k j = zeros k j
 zeros_behind (w ∷ words) k zero = refl
 zeros_behind (w ∷ words) k (suc j) = zeros_behind words k j
 
--- zeros behind zeros
+-- zeros after zeros
 zeros_joined : (xs : List ℕ) (k l n : ℕ) → k + l ≡ n → (xs ++ replicate k 0) ++ replicate l 0 ≡ xs ++ replicate n 0
 zeros_joined xs k l n f =
     append_assoc xs (replicate k 0) (replicate l 0) ∙ ap (λ zs. xs ++ zs) (replicate-append-replicate k l 0 ∙ ap (λ i. replicate i 0) f)

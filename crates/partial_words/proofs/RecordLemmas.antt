@@ -5,7 +5,7 @@ pub length-pairs : (ps : List (ℕ × ℕ)) → length (flat_map pair_words ps) 
 length-pairs [] = refl
 length-pairs (p ∷ ps) = omega (arith, length-pairs ps)
 
--- at an even place stands an index, at the odd one behind it the value
+-- at an even place stands an index, at the odd one after it the value
 pub pairs_even : (ps : List (ℕ × ℕ)) (i : ℕ) (d : ℕ × ℕ) → i < length ps → slice_index (flat_map pair_words ps) (2 * i) ≡ (slice_index_or ps i d).0
 pairs_even [] i d within = absurd (omega arith)
 pairs_even (p ∷ ps) zero d within = refl
@@ -30,12 +30,12 @@ word_odd ps k d within odd =
     let e : 1 + 2 * (k / 2) ≡ k = omega arith in
     sym (pairs_odd ps (k / 2) d (omega arith)) ∙ ap (λ n. slice_index (flat_map pair_words ps) n) e
 
--- behind the first four words of a record stand its pairs
+-- after the first four words of a record stand its pairs
 pub block_tail : (prev value view k : ℕ) (ps : List (ℕ × ℕ)) → 4 ≤ k → k < length (record_block prev value view ps) → k - 4 < 2 * length ps
 block_tail prev value view k [] behind within = absurd (omega arith)
 block_tail prev value view k (p ∷ ps) behind within = omega (arith, length-pairs ps)
 
--- word 1 + k of the view's words behind a record
+-- word 1 + k of the view's words after a record
 pub block_word : (prev value view k : ℕ) (ps : List (ℕ × ℕ)) → k < 2 * length ps → slice_index (record_block prev value view ps) (4 + k) ≡ slice_index (flat_map pair_words ps) k
 block_word prev value view k [] within = absurd (omega arith)
 block_word prev value view k (p ∷ ps) within =

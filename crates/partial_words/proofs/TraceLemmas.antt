@@ -1,4 +1,4 @@
--- What a trace keeps tells its events.
+-- What a trace keeps determines its events.
 use Rattle.std.proofs.Common.{add-one, append_assoc, drop-cons}
 use Rattle.std.proofs.lemmas.List.{length-drop}
 use Rattle.std.specs.Prelude.{Some, None, drop}
@@ -23,7 +23,7 @@ event_alone (Kept.Load p w a) e others is = ap (λ d. d ∷ []) (some_same is)
 event_alone (Kept.Store p w v) e others is = ap (λ d. d ∷ []) (some_same is)
 event_alone Kept.Other e others is = let bad : None ≡ Some e = is in cc
 
--- a step is kept behind the others
+-- a step is kept after the others
 pub step_kept : (kept : List Kept) (others : List Event) (k : Kept) (e : Event) → event_kept k ≡ Some e → others_in kept ≡ length others →
     kept_events (kept ++ k ∷ []) others ≡ kept_events kept others ++ e ∷ []
 step_kept [] others k e is f = event_alone k e others is
@@ -32,7 +32,7 @@ step_kept (Kept.Store q v b ∷ kept) others k e is f = ap (λ es. record { port
 step_kept (Kept.Other ∷ kept) [] k e is f = absurd (omega (arith, f))
 step_kept (Kept.Other ∷ kept) (o ∷ others) k e is f = ap (λ es. o ∷ es) (step_kept kept others k e is (omega (arith, f)))
 
--- any other step is kept behind them
+-- any other step is kept after them
 pub other_kept : (kept : List Kept) (others : List Event) (e : Event) → others_in kept ≡ length others →
     kept_events (kept ++ Kept.Other ∷ []) (others ++ e ∷ []) ≡ kept_events kept others ++ e ∷ []
 other_kept [] [] e f = refl
@@ -61,7 +61,7 @@ others_behind_other (Kept.Load q v b ∷ kept) = others_behind_other kept
 others_behind_other (Kept.Store q v b ∷ kept) = others_behind_other kept
 others_behind_other (Kept.Other ∷ kept) = ap (λ n. n + 1) (others_behind_other kept)
 
--- what is told of a step that is kept as it is, and how many others are behind it
+-- what a step that is kept as it is gives, and how many others come after it
 first_kept : (k : Kept) (e : Event) (kept : List Kept) (others : List Event) → event_kept k ≡ Some e → kept_events (k ∷ kept) others ≡ e ∷ kept_events kept others
 first_kept (Kept.Load p w a) e kept others is = ap (λ d. d ∷ kept_events kept others) (some_same is)
 first_kept (Kept.Store p w v) e kept others is = ap (λ d. d ∷ kept_events kept others) (some_same is)
@@ -72,15 +72,15 @@ others_from_first (Kept.Load p w a) e kept is = refl
 others_from_first (Kept.Store p w v) e kept is = refl
 others_from_first Kept.Other e kept is = let bad : None ≡ Some e = is in cc
 
--- the step from which on there is more to be told
+-- the step from which on there is more to give
 here : (kept : List Kept) (i : ℕ) (d k : Kept) → i < length kept → slice_index_or kept i d ≡ k → drop i kept ≡ k ∷ drop (i + 1) kept
 here kept i d k inside at = rw add-one (drop-cons kept i d inside ∙ ap (λ s. s ∷ drop (suc i) kept) at)
 
--- all is told behind one more event
+-- all is given after one more event
 behind_event : (told more : List Event) (e : Event) (rest all : List Event) → more ≡ told ++ e ∷ [] → told ++ e ∷ rest ≡ all → more ++ rest ≡ all
 behind_event told more e rest all is all_is = ap (λ l. l ++ rest) is ∙ append_assoc told (e ∷ []) rest ∙ all_is
 
--- a step is told that is kept as it is
+-- a step that is kept as it is is given
 pub kept_is_told : (kept : List Kept) (others left : List Event) (i : ℕ) (d k : Kept) (e : Event) (told more all : List Event) → i < length kept →
     slice_index_or kept i d ≡ k → event_kept k ≡ Some e → more ≡ told ++ e ∷ [] → left ≡ others → told ++ kept_events (drop i kept) others ≡ all →
     more ++ kept_events (drop (i + 1) kept) left ≡ all
@@ -94,7 +94,7 @@ pub others_from_kept : (kept : List Kept) (i : ℕ) (d k : Kept) (e : Event) (n 
 others_from_kept kept i d k e n inside at is left =
     sym (ap others_in (here kept i d k inside at) ∙ others_from_first k e (drop (i + 1) kept) is) ∙ left
 
--- the next of the others is told
+-- the next of the others is given
 next_is_there : (kept : List Kept) (others : List Event) (i n : ℕ) (d : Kept) → i < length kept → slice_index_or kept i d ≡ Kept.Other →
     others_in (drop i kept) ≡ length (drop n others) → n < length others
 next_is_there kept others i n d inside at left =

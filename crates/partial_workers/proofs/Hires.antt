@@ -1,4 +1,4 @@
--- Workers for the ports of a memory, and what their threads come to.
+-- Workers for the ports of a memory, and what their threads return.
 use Rattle.partial_workers.proofs.{Common.{ℕ, suc, ◌≡◌, ◌+◌, ◌<◌, ◌≤◌, ◌++◌, List, [], ◌∷◌, length, take, slice_index_or, sym, ap, subst, ◌∙◌, arith, AllByRecursion, vec_capacity, take-suc, get_or_default, length-map, map-append, Call, all_append, all_back, all_front, MemoryView, PortView, AreEach, IsCallWithin, ScanHasRoom, HaveCome, HaveRooms, IsWorkDone, IsHired, IsNewWork, IsWorkStarted, calls_of, Job, Worked, Worker, Results, Works}, Pairs.{each_at, each_length, each_push}}
 use Rattle.std.specs.declared.thread.PromisedHandle.{PromisedHandle}
 

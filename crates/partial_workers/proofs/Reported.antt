@@ -47,7 +47,7 @@ fills_written m seen kept (n ∷ ns) (inr f) = ap (λ l. wrote n.note ++ l) (fil
 
 -- ---- the answers of all ports
 
--- what the history tells of a port that has made its calls
+-- what the history says of a port that has made its calls
 answered_in : (m : MemoryView) (o : Opening) (log : List Applied) (port : ℕ) (calls : List Call) (w : Worked) → m.about.opening ≡ o → m.about.sizes.m ≡ length o.values →
     IsWorkDone m port calls w → IsPortOf log w.port → AreAnswered o log port calls w.answers
 answered_in m o log port calls w opening sizes done told =

@@ -43,7 +43,7 @@ impl Work for Total {
     }
 }
 
-/// Keeps how far the last stage was behind the first one at most.
+/// Keeps the greatest lag of the last stage: how many items fewer than the first one it had counted.
 #[derive(Drop)]
 struct Lag {
     most: u64,

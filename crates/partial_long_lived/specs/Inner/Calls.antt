@@ -30,7 +30,7 @@ pub record StaysAt (s t : Stand) : Type 0 where
   pub passed : t.passed ≡ s.passed
   pub goes : SeatGoes (port_at s) (port_at t)
 
--- the port may look: it stands, and if it owns an arena it holds no mark, or has ports left to find
+-- the port may look: it stands, and if it owns an arena it holds no entering word, or has ports left to find
 pub record MayLook (s : Stand) : Type 0 where
   pub stands : (port_at s).port.control.entering ≡ Stands
   pub marks : IfSome (port_at s).port.control.owned (λ o. (o.mark ≡ None) ⊎ (o.clean < (port_at s).about.ports))

@@ -34,7 +34,7 @@ TakesBy w x a y = Takes (w - (1 + x.about.ports)) x a y
 abbrev pub GivesBack : SeatedPort → ℕ → SeatedPort → Type 0
 GivesBack x a y = OfOwned SeatGives x a y
 
--- the exchange of the mark w of a port
+-- the exchange of the entering word w of a port
 abbrev pub PutsBy : ℕ → SeatedPort → ℕ → SeatedPort → Type 0
 PutsBy w x a y = OfOwned (λ o. PutsPort o (unpacked (w - entering_mark))) x a y
 
@@ -115,7 +115,7 @@ abbrev pub Tried : ℕ → Bool → Stand → Type 0
 Tried x true s = HasTaken s x
 Tried x false s = IsIdle s
 
--- it has looked, is done with the ports below q, and has loaded the word a of port q, which is a mark
+-- it has looked, is done with the ports below q, and has loaded the word a of port q, which is an entering word
 pub record HoldsMark (s : Stand) (x q a : ℕ) : Type 0 where
   pub stands : (port_at s).port.control.entering ≡ Stands
   pub owned : OwnedArena
@@ -239,13 +239,14 @@ HasFound t j = (port_at t).found ≡ Some (record {
   stamp = stamp_seen (port_at t) (port_at t).port.part.seen j;
 })
 
--- v is the value, or the stamp, of component j that the port has found
+-- v is the value of component j that the port has found
 pub record FoundValue (t : Stand) (j v : ℕ) : Type 0 where
   pub found : Found
   pub is : (port_at t).found ≡ Some found
   pub component : found.component ≡ j
   pub value : v ≡ found.value
 
+-- v is the stamp of component j that the port has found
 pub record FoundStamp (t : Stand) (j v : ℕ) : Type 0 where
   pub found : Found
   pub is : (port_at t).found ≡ Some found

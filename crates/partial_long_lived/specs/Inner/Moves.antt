@@ -74,11 +74,11 @@ pub record BeginsPass (x : SeatedPort) (a : ℕ) (y : SeatedPort) : Type 0 where
   pub more : a ≡ packed x.port.control.here → x.contention.search.epoch ≡ x.port.control.here.epoch → HasPassedArenas x.about.arenas x →
       (x.contention.search.freed < freed) × (freed ≤ x.contention.search.most)
 
--- a port that has stored its mark, with which entering begins
+-- a port that has stored its entering word, with which entering begins
 abbrev pub marks : Port → Port
 marks p = record p { control = record p.control { entering = Marks } }
 
--- the first: the store of the mark
+-- the first: the store of the entering word
 abbrev pub StoresMark : SeatedPort → ℕ → SeatedPort → Type 0
 StoresMark x a y = y ≡ becomes x x.began (marks x.port)
 
@@ -91,7 +91,7 @@ abbrev pub LoadsCurrent : SeatedPort → ℕ → SeatedPort → Type 0
 LoadsCurrent x a y = (a ≡ packed (unpacked a)) × IsSite (plan_of x.about) (unpacked a)
     × (y ≡ becomes x x.began (loads (unpacked a) x.port))
 
--- the site that a port enters which has loaded c, when the exchange of its mark finds a
+-- the site that a port enters which has loaded c, when the exchange of its entering word finds a
 abbrev pub site_found : Port → Site → ℕ → Site
 site_found p c a = if a == marked p.control.here then c else unpacked a
 
@@ -133,19 +133,19 @@ contention_giving past o m = if past then m else passing o.arena m
 abbrev pub SeatGives : OwnedArena → SeatedPort → ℕ → SeatedPort → Type 0
 SeatGives o x a y = y ≡ record (becomes x x.began (having_given x.port)) { contention = contention_giving x.port.control.past o x.contention }
 
--- what an owner does with the word of the next port, which is the unmarked word a: it is done with that port if the port is in another arena
+-- what an owner does with the word a of the next port, which has no entering bit: it is done with that port if the port is in another arena
 abbrev pub elsewhere : ℕ → OwnedArena → OwnedArena
 elsewhere a o = if (unpacked a).arena == o.arena then o else at_next_port o
 
--- the same where the word may be marked: the owner has loaded it
+-- the same of a word that may have the entering bit: the owner has loaded it
 abbrev pub port_loaded : ℕ → OwnedArena → OwnedArena
 port_loaded a o = if nat_lt a entering_mark then elsewhere a o else having_loaded o (unpacked (a - entering_mark))
 
--- what an owner has met by the unmarked word a of a port: that the port stands in the arena, unless it names another one
+-- what an owner has met by the word a of a port, without the entering bit: that the port stands in the arena, unless it names another one
 abbrev pub contention_there : ℕ → OwnedArena → Contention → Contention
 contention_there a o m = if (unpacked a).arena == o.arena then meeting m else m
 
--- the same where the word may be marked
+-- the same of a word that may have the entering bit
 abbrev pub contention_loading : ℕ → OwnedArena → Contention → Contention
 contention_loading a o m = if nat_lt a entering_mark then contention_there a o m else m
 
@@ -153,7 +153,7 @@ contention_loading a o m = if nat_lt a entering_mark then contention_there a o m
 abbrev pub LoadsPort : OwnedArena → SeatedPort → ℕ → SeatedPort → Type 0
 LoadsPort o x a y = y ≡ record (becomes x x.began (owning_port x.port (port_loaded a o))) { contention = contention_loading a o x.contention }
 
--- an owner that has exchanged the mark m of that port for its own site, and found a
+-- an owner that has exchanged the entering word m of that port for its own site, and found a
 abbrev pub port_put : Site → ℕ → OwnedArena → OwnedArena
 port_put m a o = if a == marked m then at_next_port o else (if nat_lt a entering_mark then elsewhere a o else o)
 

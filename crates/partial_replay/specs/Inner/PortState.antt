@@ -109,12 +109,13 @@ ended_call port number call way ended a note = record {
   finish = Some (record { ended = ended; answer = a; note = note });
 }
 
--- what the machine after a step makes of its port: the call goes on, or it is finished
+-- what the machine after a step makes of its port when the call goes on
 pub record CallGoesOn (port new : Port) (way : UnderWay) (core : CoreState) : Type 0 where
   pub machine : new.core ≡ core
   pub finished : new.finished.items ≡ port.finished.items
   pub way' : new.under_way ≡ Some (one_step_more way)
 
+-- and when the call has ended with that reply: it is listed as finished, and the machine is idle
 pub record Ends (calls : List Call) (words : List ℕ) (log : List Applied) (port new : Port) (way : UnderWay) (core : CoreState)
     (r : Reply) : Type 0 where
   pub machine : new.core ≡ at_stage core Idle

@@ -3,13 +3,13 @@ use Rattle.std.specs.Prelude.{ℕ, ◌≡◌, List, ◌++◌, Bool, Option, take
 use Rattle.std.specs.Io.KnownBytes.{Appends}
 use Rattle.partial_text.specs.DeviceView.{DeviceView}
 
--- what is gathered and not yet written, the bytes that were written, if they are known, and whether a write has failed
+-- How far a text has been given: what is gathered and not yet written, the bytes that were written, if they are known, and whether a write has failed
 pub record Telling : Type 0 where
   pub gathered : List ℕ
   pub written : Option (List ℕ)
   pub failed : Bool
 
--- the telling of a text to this writer, of which these bytes are gathered
+-- a text that is being given to this writer, of which these bytes are gathered
 abbrev pub telling : {W : Type 0} → (W → Option (List ℕ)) → List ℕ → DeviceView W → Telling
 telling contents gathered writer = record { gathered = gathered; written = contents writer.inner; failed = writer.failed }
 

@@ -1,4 +1,4 @@
-//! The words that replays leave behind, and the steps that they make.
+//! The words that replays leave, and the steps that they make.
 
 use super::replayed;
 use partial_replay::{Device, Event, Plan, replay_apart};

@@ -7,7 +7,7 @@ use Rattle.partial_words.proofs.plain.store_up_to.Given as goal
 abbrev pub decreases-loop-stored : goal.decreases-loop-stored
 decreases-loop-stored l = l.count - length l.stored.items
 
--- zeros have been stored behind the words
+-- zeros have been stored after the words
 abbrev pub invariant-loop-stored : goal.invariant-loop-stored
 invariant-loop-stored l = record {
   items : l.stored.items ≡ l.initial.stored.items ++ replicate (length l.stored.items - length l.initial.stored.items) 0;

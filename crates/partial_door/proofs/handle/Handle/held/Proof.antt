@@ -1,4 +1,4 @@
--- `held` lends what lies behind the pointer, where that isn't null, and the handle follows it.
+-- `held` lends what the pointer refers to, where that isn't null, and the handle follows it.
 use Rattle.partial_door.proofs.{Common.{◌≡◌, refl, sym, subst, List, [], ◌∷◌, Ura, lit<, named, Val, vptr, vnull, vstruct, vcons, vnil, SProp, ent, sep, emp, via, fst∗, id⊢, Lft, GName, Share, Fml, ftrue, flft, fres, fsep, Memory, Routine, Env, WpFn, Tables, Logic, sem, Fun, tables, WpFn-mono, ‵, raw, ◌⊛◌, some, later, at_ret, ◌$◌, ◌∵◌, !, qed, by, move, keep, drop, split, split3, join, group, frame, rewrite, fsplit, fsplit3, fjoin, fpack, pick, suffices, use0, use1, await, done, agg, look_in, sub, whole, stop, fld, load, addr, lit, of_opd, no_more, and_then, bin, first, blocks, branches, skips, exec, returns, returns_within, enter, alloc_all, pass_all, free_all, look_at, get, through, sets, sets_last, env, no, RattleType, owns, Ptr, block_ptr, ptr_val, tests_null, mem, cell_at, part_at, plain, type_at, mut_ref_to, nothing, opens, closes, Clauses, at_exit, triple_of, entered, says, Stays, stay_dropped, walk_of, ends_at, walked, walk_Meets, Goes-spent_ref, Option, None, Some, X, R, τ, handle, word, box_in, ghosts, full_share, live, Some-of, none_of, after}, AsBox.E, HandleSteps.{handle_out, owned_out, null_in}}
 use Prim.Native.Nat.{ℕ}
 use mir.Raw.{raw as bare}

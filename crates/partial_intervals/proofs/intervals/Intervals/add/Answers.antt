@@ -55,7 +55,7 @@ returns-in-true-false-clause-normal c =
     c.index_mut-in-true-false.result.now (rw same at c.index_mut-in-true-false.ensures.value) (c.in-true-false.ensures.0 refl) (λ h. false≢true (c.in-true-false.ensures'.1 h)) in
     rw same adds.normal
 
--- the interval behind grows by l
+-- the interval after grows by l
 pub returns-in-false-true-clause-set : goal.returns-in-false-true-clause-set
 returns-in-false-true-clause-set c =
     let same = ap (λ (s : Set). s.list) c.self.view_is in

@@ -2,7 +2,7 @@ use Rattle.partial_replay.proofs.{Common.{◌≡◌, ◌<◌, ◌++◌, ◌∷�
 use Rattle.partial_replay.proofs.port.Port.make_other_step.Goals as goal
 use Rattle.partial_replay.proofs.port.Port.make_other_step.Goals.{After-take, in-Some+in_ok-push-2, in_default}
 
--- the words behind the step
+-- the words after the step
 words_are : (c : After-take) → c.match-entry_of.memory.words ≡ c.perform-step.new.words
 words_are c =
     elim c.match-entry_of.branch [
@@ -10,7 +10,7 @@ words_are c =
       | in_default w ↦ ap (λ (v : Memory). v.words) w.memory-is
     ]
 
--- the trace behind the step
+-- the trace after the step
 trace_is : (c : After-take) → c.match-entry_of.memory.trace ≡ c.args.memory.now.trace ++
     record { port = c.args.self.now.number; step = c.perform-step.result.0; answer = c.perform-step.result.1 } ∷ []
 trace_is c =
@@ -19,7 +19,7 @@ trace_is c =
       | in_default w ↦ ap (λ (v : Memory). v.trace) w.memory-is ∙ c.in_ok-push.ensures.pushed
     ]
 
--- the history behind the step
+-- the history after the step
 log_is : (c : After-take) → c.match-entry_of.memory.history.items ≡ c.args.memory.now.history.items ++
     entry_at c.args.self.now.core.sizes.m c.perform-step.new.words c.args.self.now.number c.perform-step.result.0 c.perform-step.result.1
 log_is c =

@@ -3,7 +3,7 @@ use Rattle.std.specs.Prelude.{drop}
 use Rattle.partial_words.specs.Kept.{kept_events, others_in}
 use Rattle.partial_words.proofs.trace.Trace.into_vec.Given as goal
 
--- what is left to be told, and how many of it are others
+-- what is left to give, and how many of it are others
 abbrev pub invariant-loop-step : goal.invariant-loop-step
 invariant-loop-step l = record {
   told : l.events.items ++ kept_events (drop l.step-index l.step-items) (drop l.next l.others.items) ≡ l.fn.self;
