@@ -33,7 +33,7 @@ impl Port {
     #[inline]
     pub fn get_stamped<T: Word>(&mut self, key: Key<T>) -> Result<Value<T>, Refused> {
         let component = key.of(self.memory())?;
-        Ok(self.read(component)?.typed())
+        self.read_as(component)
     }
 
     /// Sets a component, as [`Port::update`] does.
@@ -111,11 +111,10 @@ impl Port {
     pub fn change_if<T: Word>(
         &mut self,
         key: Key<T>,
-        mut change: impl FnMut(T) -> Option<T>,
+        change: impl FnMut(T) -> Option<T>,
     ) -> Result<Option<Change<T>>, Refused> {
         let component = key.of(self.memory())?;
-        let changed = self.modify(component, |word| change(T::from_word(word)).map(T::to_word))?;
-        Ok(changed.map(|change| Change { before: change.before.typed(), after: change.after.typed() }))
+        self.modify_as(component, change)
     }
 
     /// Scans these components. Returns their values as they stood together at one moment of the call.
