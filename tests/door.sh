@@ -42,6 +42,11 @@ example() {
     shift
     (cd bindings/rust && cargo run --offline --quiet --release --example "$name" -- "$@")
 }
+# Whether the calls by keys have the machine code of the calls by indices and one comparison.
+same_code() {
+    CARGO_TARGET_X86_64_UNKNOWN_LINUX_GNU_RUNNER=$PWD/tests/same_code.py \
+        cargo test --offline --quiet --release --lib --manifest-path bindings/rust/Cargo.toml
+}
 # Whether 64 threads soak a memory for a second without a fault, and their first calls are linearizable.
 soak() {
     example soak 64 1 512 "$made/history" && python3 tests/judge_times.py <"$made/history"
@@ -135,6 +140,11 @@ if command -v cargo >/dev/null 2>&1; then
     CARGO_TARGET_DIR=$made/target
     export CARGO_TARGET_DIR
     item "the tests and examples of the Rust binding" sh -c 'cd bindings/rust && cargo test --offline --quiet'
+    if command -v objdump >/dev/null 2>&1; then
+        count_as "the machine code of the calls by keys" same_code
+    else
+        echo "door: skipped: the machine code of the calls by keys: there is no objdump"
+    fi
     item "the example flags.rs" example flags 400000
     item "the example monitor.rs" example monitor 400000
     item "the example scheduler.rs" example scheduler 100000
