@@ -33,6 +33,12 @@ ends_at_a_report() {
     echo 'int main(int count, char **words) { return (0x7fffffff + count) * (words == 0); }' >"$made/overflow.c" &&
         "${CC:-cc}" "${sanitized[@]}" "$made/overflow.c" -o "$made/overflow" && ! "$made/overflow"
 }
+# Whether the C compiler has a thread sanitizer that runs here, where threads run side by side.
+has_thread_sanitizer() {
+    [ "$(getconf _NPROCESSORS_ONLN)" -gt 1 ] && command -v objcopy &&
+        echo 'int main(void) { return 0; }' >"$made/empty.c" &&
+        "${CC:-cc}" -fsanitize=thread "$made/empty.c" -o "$made/empty" && "$made/empty"
+}
 build_bitcode() {
     bindings/bitcode.sh "$made/bitcode/libpartial_door.a" >"$made/flags"
 }
@@ -132,6 +138,11 @@ item "the example in C is compiled" compile "$made/producers" bindings/c/example
 item "the example in C" "$made/producers" 400000
 item "the test of refused growths is compiled" compile "$made/growths" bindings/c/growths.c
 count_as "the test of refused growths" "$made/growths"
+if has_thread_sanitizer >/dev/null 2>&1; then
+    item "what an update publishes" tests/ordering.sh
+else
+    echo "door: skipped: what an update publishes: there is no thread sanitizer, no objcopy or one processor"
+fi
 item "the header from outside" tests/header.sh "$library"
 item "the library with no proof" tests/unproved.sh
 if command -v cargo >/dev/null 2>&1; then

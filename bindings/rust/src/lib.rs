@@ -48,7 +48,7 @@
 //! before it: a read or a scan that shows its value, or a later one of that component, acquires it. A lost update
 //! publishes nothing, and neither does a conditional one that answers that the component has changed. A call that is
 //! helped acquires what the values that it takes publish, through the update that helped. No contract of the library
-//! speaks of a program's other memory; `bindings/sanitize.sh` shows both sides under the thread sanitizer.
+//! speaks of a program's other memory; `tests/ordering.sh` of the repository shows both under the thread sanitizer.
 //!
 //! # Memory in use
 //!
