@@ -83,10 +83,13 @@ as_git_dependency() {
             grep -q '^error: could not find native static library.*run /.*/bindings/library.sh)' "$made/failed" &&
             PARTIAL_DOOR_LIB="$library" cargo run)
 }
-# Whether the crate isn't built for a target that the library isn't of, and the text says why.
+# Whether the crate isn't built for a target that the library isn't of, and the text says why. The feature `plain` isn't
+# refused: where rustc has no std for the target, the build ends with that.
 other_target() {
     (cd bindings/rust && ! cargo check --offline --target aarch64-unknown-linux-gnu 2>"$made/said") &&
-        grep -q 'the library is built for x86-64 Linux, and the target is aarch64' "$made/said"
+        grep -q 'the library is built for x86-64 Linux, and the target is aarch64' "$made/said" &&
+        { (cd bindings/rust && cargo check --offline --features plain --target aarch64-unknown-linux-gnu 2>"$made/said") ||
+            grep -q "can't find crate for .std." "$made/said"; }
 }
 # Whether the crate's tests pass over plain Rust, where there is no library and no kit, and its page says first of all that
 # nothing is proved.
