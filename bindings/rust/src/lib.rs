@@ -81,9 +81,10 @@
 //! # Without the library
 //!
 //! The feature `plain` has the same interface over plain Rust with a lock. It is **not proved**, and it is for tests of
-//! programs that depend on this crate, on other systems and under tools such as Miri. A call waits for the others there, no
-//! update is lost, no scan is helped, and the calls order memory more than those of the library. [`ENGINE`] and the `Debug`
-//! of a memory say which one answers.
+//! programs that depend on this crate, on other systems and under tools that can't run a C library, as Miri is one. The
+//! crate's own tests run over it too, though not under such a tool. A call waits for the others there, no update is lost,
+//! no scan is helped, and the calls order memory more than those of the library. [`ENGINE`] and the `Debug` of a memory say
+//! which one answers.
 #![deny(missing_docs)]
 
 mod answers;
@@ -125,13 +126,15 @@ pub enum Engine {
     Plain,
 }
 
-/// What answers the calls of this build. A program that must not run without the proof can refuse to be compiled:
+/// What answers the calls of this build. A program that must not run without the proof ends at its start:
 ///
 /// ```no_run
 /// use partial_door::{Engine, ENGINE};
 ///
-/// assert!(matches!(ENGINE, Engine::Proved), "this build has no proof: {ENGINE:?}");
+/// assert!(matches!(ENGINE, Engine::Proved), "this build has no proof");
 /// ```
+///
+/// As the value of a `const`, the same assertion refuses to be compiled.
 pub const ENGINE: Engine = if cfg!(feature = "plain") {
     Engine::Plain
 } else if cfg!(partial_door_unproved) {
