@@ -35,7 +35,7 @@ ends_at_a_report() {
 }
 # Whether the C compiler has a thread sanitizer that runs here, where threads run side by side.
 has_thread_sanitizer() {
-    [ "$(getconf _NPROCESSORS_ONLN)" -gt 1 ] && command -v objcopy &&
+    [ "$(nproc)" -gt 1 ] && command -v objcopy &&
         echo 'int main(void) { return 0; }' >"$made/empty.c" &&
         "${CC:-cc}" -fsanitize=thread "$made/empty.c" -o "$made/empty" && "$made/empty"
 }

@@ -19,5 +19,14 @@ instrument thread "$made/door.ll" "$made/door.o" || stop "the library isn't inst
 "${CC:-cc}" -std=c11 -O1 -fsanitize=thread -I bindings/c bindings/c/ordering.c "$made/door.o" "$kit/c/liblibc_c.a" -pthread \
     -o "$made/ordering"
 "$made/ordering" applied || stop "an applied update publishes what its thread wrote before"
-! "$made/ordering" lost >"$made/said" 2>&1 || stop "a program that relies on a lost update isn't reported"
-grep -q 'WARNING: ThreadSanitizer: data race' "$made/said" || { cat "$made/said"; stop "what is reported is no race"; }
+# A run in which no update was lost ends with 2, and shows nothing.
+ended=2
+for _ in 1 2 3 4 5 6 7 8 9 10; do
+    [ "$ended" -eq 2 ] || break
+    ended=0
+    "$made/ordering" lost >"$made/said" 2>&1 || ended=$?
+done
+grep -q 'WARNING: ThreadSanitizer: data race' "$made/said" && [ "$ended" -gt 2 ] || {
+    tail -n 20 "$made/said"
+    stop "a program that relies on a lost update isn't reported (status $ended)"
+}
