@@ -82,10 +82,10 @@
 //! # Without the library
 //!
 //! The feature `plain` has the same interface over plain Rust with a lock. It is **not proved**, and it is for tests of
-//! programs that depend on this crate, on other systems and under tools that can't run a C library, as Miri is one. The
-//! crate's own tests run over it too, though not under such a tool. A call waits for the others there, no update is lost,
-//! no scan is helped, and the calls order memory more than those of the library. [`ENGINE`] and the `Debug` of a memory say
-//! which one answers.
+//! programs that depend on this crate, on other systems and under tools that can't run a C library, such as Miri. The
+//! crate's own tests pass over it; they weren't run under such a tool. A call waits for the others there, no update is
+//! lost, no scan is helped, and the calls order memory more than those of the library. [`ENGINE`] and the `Debug` of a
+//! memory say which one answers.
 #![deny(missing_docs)]
 #![warn(clippy::undocumented_unsafe_blocks)]
 
