@@ -16,11 +16,14 @@
 //! assert!(first.update(2, 33)?.is_applied());
 //! assert_eq!(first.scan_array([2, 0])?, [33, 11]);
 //!
+//! let mut second = memory.port()?;
 //! std::thread::scope(|scope| {
-//!     scope.spawn(|| memory.port().expect("a port is free").update(1, 21));
-//!     scope.spawn(|| first.update(2, 34));
-//! });
-//! drop(first);
+//!     let beside = scope.spawn(|| second.update(1, 21));
+//!     assert!(first.update(2, 34)?.is_applied());
+//!     assert!(beside.join().expect("no panic")?.is_applied());
+//!     Ok::<(), partial_door::Refused>(())
+//! })?;
+//! drop((first, second));
 //! assert_eq!(memory.close()?, [11, 21, 34]);
 //! # Ok::<(), Box<dyn std::error::Error + Send + Sync>>(())
 //! ```
