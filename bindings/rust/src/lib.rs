@@ -17,13 +17,10 @@
 //! assert_eq!(first.scan_array([2, 0])?, [33, 11]);
 //!
 //! let mut second = memory.port()?;
-//! std::thread::scope(|scope| {
-//!     let beside = scope.spawn(|| second.update(1, 21));
-//!     assert!(first.update(2, 34)?.is_applied());
-//!     assert!(beside.join().expect("no panic")?.is_applied());
-//!     Ok::<(), partial_door::Refused>(())
-//! })?;
-//! drop((first, second));
+//! let beside = std::thread::spawn(move || second.update(1, 21));
+//! assert!(first.update(2, 34)?.is_applied());
+//! assert!(beside.join().expect("no panic")?.is_applied());
+//! drop(first);
 //! assert_eq!(memory.close()?, [11, 21, 34]);
 //! # Ok::<(), Box<dyn std::error::Error + Send + Sync>>(())
 //! ```
