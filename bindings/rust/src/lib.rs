@@ -4,8 +4,8 @@
 )]
 //! A wait-free, linearizable partial snapshot object: components of 64 bits that many threads share. Any
 //! port may update or read any component, and scan any few of them as they stood together at one moment.
-//! Each call of a port ends, whatever other threads do; only [`Port::modify`], and [`Port::change`] by it, make such calls
-//! until no other update comes between. A [`Memory`] never wears out.
+//! Each call of a port ends, whatever other threads do; [`Port::modify`] and [`Port::change`] make such calls until no
+//! other update comes between. A [`Memory`] never wears out.
 //!
 //! ```
 //! use partial_door::Memory;
