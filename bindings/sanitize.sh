@@ -13,6 +13,7 @@ set -u
 [ $# -eq 0 ] || [ "$*" = --unproved ] || { echo "usage: bindings/sanitize.sh [--unproved]" >&2; exit 2; }
 cd "$(dirname "$0")/.." || exit 2
 . scripts/need.sh && need rt clang objcopy
+. scripts/instrument.sh || exit 2
 made=$(mktemp -d) || exit 2
 trap 'rm -rf "$made"' EXIT
 passed=0
@@ -29,15 +30,6 @@ item() {
     fi
 }
 kit=$(dirname "$(rt doc)")
-# instrument SANITIZER TEXT OUT: compiles the library's text for this sanitizer.
-instrument() {
-    sed "s/^\(define .*[ )]\)\(#[0-9]\)/\1sanitize_$1 \2/; s/ memory([^)]*)//; s/ nosync//" "$2" >"$made/instrumented.ll" &&
-        [ "$(grep -c "^define .*sanitize_$1" "$made/instrumented.ll")" -eq "$(grep -c '^define ' "$2")" ] &&
-        "$kit/toolchain/bin/clang" -O1 "-fsanitize=$1" -c "$made/instrumented.ll" -o "$3" || return 1
-    # An older run-time of the thread sanitizer has these by their plain names alone, and sees each call of those.
-    objcopy --redefine-sym __tsan_memcpy=memcpy --redefine-sym __tsan_memmove=memmove \
-        --redefine-sym __tsan_memset=memset "$3"
-}
 # compile SANITIZERS SOURCE LIBRARY OUT: compiles this program in C over an instrumented library, and with it the second
 # file of the test of memories, which others don't call.
 compile() {

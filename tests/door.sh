@@ -33,6 +33,12 @@ ends_at_a_report() {
     echo 'int main(int count, char **words) { return (0x7fffffff + count) * (words == 0); }' >"$made/overflow.c" &&
         "${CC:-cc}" "${sanitized[@]}" "$made/overflow.c" -o "$made/overflow" && ! "$made/overflow"
 }
+# Whether the C compiler has a thread sanitizer that runs here, where threads run side by side.
+has_thread_sanitizer() {
+    [ "$(nproc)" -gt 1 ] && command -v objcopy &&
+        echo 'int main(void) { return 0; }' >"$made/empty.c" &&
+        "${CC:-cc}" -fsanitize=thread "$made/empty.c" -o "$made/empty" && "$made/empty"
+}
 build_bitcode() {
     bindings/bitcode.sh "$made/bitcode/libpartial_door.a" >"$made/flags"
 }
@@ -41,6 +47,11 @@ example() {
     name=$1
     shift
     (cd bindings/rust && cargo run --offline --quiet --release --example "$name" -- "$@")
+}
+# Whether the calls by keys have the machine code of the calls by indices and one comparison.
+same_code() {
+    CARGO_TARGET_X86_64_UNKNOWN_LINUX_GNU_RUNNER=$PWD/tests/same_code.py \
+        cargo test --offline --quiet --release --lib --manifest-path bindings/rust/Cargo.toml
 }
 # Whether 64 threads soak a memory for a second without a fault, and their first calls are linearizable.
 soak() {
@@ -72,10 +83,13 @@ as_git_dependency() {
             grep -q '^error: could not find native static library.*run /.*/bindings/library.sh)' "$made/failed" &&
             PARTIAL_DOOR_LIB="$library" cargo run)
 }
-# Whether the crate isn't built for a target that the library isn't of, and the text says why.
+# Whether the crate isn't built for a target that the library isn't of, and the text says why. The feature `plain` isn't
+# refused: where rustc has no std for the target, the build ends with that.
 other_target() {
     (cd bindings/rust && ! cargo check --offline --target aarch64-unknown-linux-gnu 2>"$made/said") &&
-        grep -q 'the library is built for x86-64 Linux, and the target is aarch64' "$made/said"
+        grep -q 'the library is built for x86-64 Linux, and the target is aarch64' "$made/said" &&
+        { (cd bindings/rust && cargo check --offline --features plain --target aarch64-unknown-linux-gnu 2>"$made/said") ||
+            grep -q "can't find crate for .std." "$made/said"; }
 }
 # Whether the crate's tests pass over plain Rust, where there is no library and no kit, and its page says first of all that
 # nothing is proved.
@@ -127,6 +141,11 @@ item "the example in C is compiled" compile "$made/producers" bindings/c/example
 item "the example in C" "$made/producers" 400000
 item "the test of refused growths is compiled" compile "$made/growths" bindings/c/growths.c
 count_as "the test of refused growths" "$made/growths"
+if has_thread_sanitizer >/dev/null 2>&1; then
+    item "what an update publishes" tests/ordering.sh
+else
+    echo "door: skipped: what an update publishes: there is no thread sanitizer, no objcopy or one processor"
+fi
 item "the header from outside" tests/header.sh "$library"
 item "the library with no proof" tests/unproved.sh
 if command -v cargo >/dev/null 2>&1; then
@@ -135,6 +154,11 @@ if command -v cargo >/dev/null 2>&1; then
     CARGO_TARGET_DIR=$made/target
     export CARGO_TARGET_DIR
     item "the tests and examples of the Rust binding" sh -c 'cd bindings/rust && cargo test --offline --quiet'
+    if command -v objdump >/dev/null 2>&1; then
+        count_as "the machine code of the calls by keys" same_code
+    else
+        echo "door: skipped: the machine code of the calls by keys: there is no objdump"
+    fi
     item "the example flags.rs" example flags 400000
     item "the example monitor.rs" example monitor 400000
     item "the example scheduler.rs" example scheduler 100000

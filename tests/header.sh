@@ -61,7 +61,7 @@ takes() {
         "$1" -std="$2" -fsyntax-only "$made/empty.$3" >/dev/null 2>&1
 }
 known=0
-for standard in c99 c11 c17 c23; do
+for standard in c99 c11 c17 c2x c23; do
     takes "${CC:-cc}" "$standard" c || continue
     known=$((known + 1))
     "${CC:-cc}" -std="$standard" $warnings -Wc++-compat -I bindings/c -fsyntax-only "$made/in_c.c" >"$made/said" 2>&1 ||

@@ -11,12 +11,13 @@
  * - `lost`: when it was lost, and what the component shows is the update that overwrote it.
  *   A lost update publishes nothing, so the read is a race, and is reported.
  *
- * bindings/sanitize.sh builds and runs both. Without the sanitizer they say how often the
- * cell was read. The status is 2 when it never was.
+ * tests/ordering.sh and bindings/sanitize.sh build and run both. Without the sanitizer they
+ * say how often the cell was read. The status is 2 when it never was.
  */
 #include "partial.h"
 
 #include <pthread.h>
+#include <sched.h>
 #include <stdio.h>
 #include <stdlib.h>
 #include <string.h>
@@ -43,6 +44,7 @@ static void meet(uint64_t round)
 {
     __atomic_add_fetch(&arrived, 1, __ATOMIC_SEQ_CST);
     while (__atomic_load_n(&arrived, __ATOMIC_SEQ_CST) < 2 * (round + 1)) {
+        sched_yield();
     }
 }
 
@@ -79,6 +81,7 @@ static void *read_cells(void *unused)
         meet(round);
         update(round, 1);
         while ((how = __atomic_load_n(&ended[round], __ATOMIC_RELAXED)) == 0) {
+            sched_yield();
         }
         expect(partial_port_read(&ports[1], 0, &seen) == 0, "a read is answered");
         expect(seen.value == value_of(round, 1) ||

@@ -187,6 +187,9 @@ impl<T> fmt::Debug for Key<T> {
     }
 }
 
+#[cfg(test)]
+mod by_hand;
+
 mod sealed {
     pub trait Sealed {}
 }
@@ -222,8 +225,7 @@ impl<T: Word, const N: usize> Keys for [Key<T>; N] {
     fn stamped(self, port: &mut Port) -> Result<([T; N], Option<[Stamp; N]>), Refused> {
         let memory = port.memory();
         let which = components(self.map(|key| key.seen_from(memory)))?;
-        let (words, stamps) = port.scan_stamped(which)?;
-        Ok((words.map(T::from_word), stamps))
+        port.scan_stamped_as(which, |words| words.map(T::from_word))
     }
 }
 
@@ -255,8 +257,8 @@ macro_rules! tuples {
             #[inline]
             fn stamped(self, port: &mut Port) -> Result<(Self::Values, Option<[Stamp; $count]>), Refused> {
                 let (memory, ($($word,)+)) = (port.memory(), self);
-                let ([$($word),+], stamps) = port.scan_stamped(components([$($word.seen_from(memory)),+])?)?;
-                Ok((($($of::from_word($word),)+), stamps))
+                let which = components([$($word.seen_from(memory)),+])?;
+                port.scan_stamped_as(which, |[$($word),+]| ($($of::from_word($word),)+))
             }
         }
     };

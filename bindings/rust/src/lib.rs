@@ -4,7 +4,8 @@
 )]
 //! A wait-free, linearizable partial snapshot object: components of 64 bits that many threads share. Any
 //! port may update or read any component, and scan any few of them as they stood together at one moment.
-//! Each call of a port ends, whatever other threads do. A [`Memory`] never wears out.
+//! Each call of a port ends, whatever other threads do; [`Port::modify`] and [`Port::change`] make such calls until no
+//! other update comes between. A [`Memory`] never wears out.
 //!
 //! ```
 //! use partial_door::Memory;
@@ -15,10 +16,10 @@
 //! assert!(first.update(2, 33)?.is_applied());
 //! assert_eq!(first.scan_array([2, 0])?, [33, 11]);
 //!
-//! std::thread::scope(|scope| {
-//!     scope.spawn(|| memory.port().expect("a port is free").update(1, 21));
-//!     scope.spawn(|| first.update(2, 34));
-//! });
+//! let mut second = memory.port()?;
+//! let beside = std::thread::spawn(move || second.update(1, 21));
+//! assert!(first.update(2, 34)?.is_applied());
+//! assert!(beside.join().expect("no panic")?.is_applied());
 //! drop(first);
 //! assert_eq!(memory.close()?, [11, 21, 34]);
 //! # Ok::<(), Box<dyn std::error::Error + Send + Sync>>(())
@@ -48,7 +49,7 @@
 //! before it: a read or a scan that shows its value, or a later one of that component, acquires it. A lost update
 //! publishes nothing, and neither does a conditional one that answers that the component has changed. A call that is
 //! helped acquires what the values that it takes publish, through the update that helped. No contract of the library
-//! speaks of a program's other memory; `bindings/sanitize.sh` shows both sides under the thread sanitizer.
+//! speaks of a program's other memory; `tests/ordering.sh` of the repository shows both under the thread sanitizer.
 //!
 //! # Memory in use
 //!
@@ -81,10 +82,12 @@
 //! # Without the library
 //!
 //! The feature `plain` has the same interface over plain Rust with a lock. It is **not proved**, and it is for tests of
-//! programs that depend on this crate, on other systems and under tools such as Miri. A call waits for the others there, no
-//! update is lost, no scan is helped, and the calls order memory more than those of the library. [`ENGINE`] and the `Debug`
-//! of a memory say which one answers.
+//! programs that depend on this crate, on other systems and under tools that can't run a C library, such as Miri. The
+//! crate's own tests pass over it; they weren't run under such a tool. A call waits for the others there, no update is
+//! lost, no scan is helped, and the calls order memory more than those of the library. [`ENGINE`] and the `Debug` of a
+//! memory say which one answers.
 #![deny(missing_docs)]
+#![warn(clippy::undocumented_unsafe_blocks)]
 
 mod answers;
 mod builder;
@@ -125,13 +128,15 @@ pub enum Engine {
     Plain,
 }
 
-/// What answers the calls of this build. A program that must not run without the proof can refuse to be compiled:
+/// What answers the calls of this build. A program that must not run without the proof ends at its start:
 ///
 /// ```no_run
 /// use partial_door::{Engine, ENGINE};
 ///
-/// assert!(matches!(ENGINE, Engine::Proved), "this build has no proof: {ENGINE:?}");
+/// assert!(matches!(ENGINE, Engine::Proved), "this build has no proof");
 /// ```
+///
+/// As the value of a `const`, the same assertion refuses to be compiled.
 pub const ENGINE: Engine = if cfg!(feature = "plain") {
     Engine::Plain
 } else if cfg!(partial_door_unproved) {

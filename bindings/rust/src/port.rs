@@ -5,7 +5,7 @@ use crate::counted::Counted;
 use crate::memory::Shared;
 use crate::raw::{self, Handle};
 use crate::typed::with_room;
-use crate::{Change, Refused, Scanned, Stamp, TwoMemories, Updated, UpdatedIf, Value};
+use crate::{Change, Refused, Scanned, Stamp, TwoMemories, Updated, UpdatedIf, Value, Word};
 use std::fmt;
 use std::thread;
 
@@ -161,20 +161,31 @@ impl Port {
     ///
     /// # Errors
     /// As those of [`Port::update`].
+    #[inline]
     pub fn modify(
         &mut self,
         component: u32,
-        mut change: impl FnMut(u64) -> Option<u64>,
+        change: impl FnMut(u64) -> Option<u64>,
     ) -> Result<Option<Change>, Refused> {
+        self.modify_as(component, change)
+    }
+
+    /// The same of a component of this type.
+    pub(crate) fn modify_as<T: Word>(
+        &mut self,
+        component: u32,
+        mut change: impl FnMut(T) -> Option<T>,
+    ) -> Result<Option<Change<T>>, Refused> {
         let mut tries = 0;
         loop {
             let before = self.read(component)?;
-            let Some(value) = change(before.value) else {
+            let Some(value) = change(T::from_word(before.value)).map(T::to_word) else {
                 return Ok(None);
             };
             match self.update_if(component, before.stamp, value) {
                 Ok(UpdatedIf::Applied { stamp }) => {
-                    return Ok(Some(Change { before, after: Value { value, stamp } }));
+                    let after = Value { value, stamp };
+                    return Ok(Some(Change { before: before.typed(), after: after.typed() }));
                 }
                 Ok(UpdatedIf::Changed { .. }) => {}
                 Err(refused) => {
@@ -203,10 +214,16 @@ impl Port {
     /// [`Refused::Component`] when `component` isn't below the number of components.
     #[inline]
     pub fn read(&mut self, component: u32) -> Result<Value, Refused> {
+        self.read_as(component)
+    }
+
+    /// The same of a component of this type.
+    #[inline]
+    pub(crate) fn read_as<T: Word>(&mut self, component: u32) -> Result<Value<T>, Refused> {
         let mut answer = raw::ReadAnswer::default();
         // SAFETY: the handle and the answer are borrowed for the call.
         match unsafe { raw::partial_door_port_read(&mut self.handle, component, &mut answer) } {
-            0 => Ok(Value { value: answer.value, stamp: self.stamp(answer.stamp) }),
+            0 => Ok(Value { value: T::from_word(answer.value), stamp: self.stamp(answer.stamp) }),
             code => Err(Refused::of(code)),
         }
     }
@@ -295,9 +312,19 @@ impl Port {
     #[inline]
     #[allow(clippy::type_complexity)]
     pub fn scan_stamped<const N: usize>(&mut self, which: [u32; N]) -> Result<([u64; N], Option<[Stamp; N]>), Refused> {
+        self.scan_stamped_as(which, |values| values)
+    }
+
+    /// The same, with what the closure makes of the values.
+    #[inline]
+    pub(crate) fn scan_stamped_as<const N: usize, V>(
+        &mut self,
+        which: [u32; N],
+        of: impl FnOnce([u64; N]) -> V,
+    ) -> Result<(V, Option<[Stamp; N]>), Refused> {
         let (mut into, mut words) = ([0; N], [0; N]);
         let has_stamps = self.scan_words(&which, &mut into, &mut words)?;
-        Ok((loaded(&into), has_stamps.then(|| loaded(&words).map(|word| self.stamp(word)))))
+        Ok((of(loaded(&into)), has_stamps.then(|| loaded(&words).map(|word| self.stamp(word)))))
     }
 
     /// Scans the components of a slice as [`Port::scan_stamped`] does: `into` has their values, and the list their stamps.

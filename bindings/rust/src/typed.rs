@@ -33,7 +33,7 @@ impl Port {
     #[inline]
     pub fn get_stamped<T: Word>(&mut self, key: Key<T>) -> Result<Value<T>, Refused> {
         let component = key.of(self.memory())?;
-        Ok(self.read(component)?.typed())
+        self.read_as(component)
     }
 
     /// Sets a component, as [`Port::update`] does.
@@ -111,11 +111,10 @@ impl Port {
     pub fn change_if<T: Word>(
         &mut self,
         key: Key<T>,
-        mut change: impl FnMut(T) -> Option<T>,
+        change: impl FnMut(T) -> Option<T>,
     ) -> Result<Option<Change<T>>, Refused> {
         let component = key.of(self.memory())?;
-        let changed = self.modify(component, |word| change(T::from_word(word)).map(T::to_word))?;
-        Ok(changed.map(|change| Change { before: change.before.typed(), after: change.after.typed() }))
+        self.modify_as(component, change)
     }
 
     /// Scans these components. Returns their values as they stood together at one moment of the call.
@@ -179,6 +178,42 @@ impl Port {
     /// [`Refused::Key`] when a key is one of another memory, and [`Refused::OutOfMemory`] when an allocation was refused.
     /// Otherwise as those of [`Port::scan`]. `into` is as it was.
     pub fn snapshot_slice<T: Word>(&mut self, keys: &[Key<T>], into: &mut [T]) -> Result<Scanned, Refused> {
+        self.scan_slice(keys, into, Port::scan)
+    }
+
+    /// Scans the components of a slice of keys as [`Port::snapshot_stamped`] does: `into` has their values, and the list
+    /// their stamps. It is `None` when the scan was helped. The list takes memory.
+    ///
+    /// ```
+    /// use partial_door::Layout;
+    ///
+    /// let mut layout = Layout::new();
+    /// let keys: Vec<_> = ['a', 'b'].map(|letter| layout.add(letter)).to_vec();
+    /// let mut port = layout.open()?.port()?;
+    /// let mut letters = ['\0'; 2];
+    /// let stamps = port.snapshot_stamped_slice(&keys, &mut letters)?.ok_or("no other port updates it")?;
+    /// assert_eq!(letters, ['a', 'b']);
+    /// assert!(port.set_if(keys[1], stamps[1], 'c')?.is_applied());
+    /// # Ok::<(), Box<dyn std::error::Error + Send + Sync>>(())
+    /// ```
+    ///
+    /// # Errors
+    /// As those of [`Port::snapshot_slice`].
+    pub fn snapshot_stamped_slice<T: Word>(
+        &mut self,
+        keys: &[Key<T>],
+        into: &mut [T],
+    ) -> Result<Option<Vec<Stamp>>, Refused> {
+        self.scan_slice(keys, into, Port::scan_stamped_slice)
+    }
+
+    /// Scans the components of these keys by an untyped call.
+    fn scan_slice<T: Word, A>(
+        &mut self,
+        keys: &[Key<T>],
+        into: &mut [T],
+        scan: impl FnOnce(&mut Port, &[u32], &mut [u64]) -> Result<A, Refused>,
+    ) -> Result<A, Refused> {
         if keys.len() != into.len() {
             return Err(Refused::Length);
         }
@@ -188,11 +223,11 @@ impl Port {
                 *component = key.of(memory)?;
             }
             with_room(which.len(), |words: &mut [u64]| {
-                let scanned = self.scan(which, words)?;
+                let answer = scan(self, which, words)?;
                 for (value, word) in into.iter_mut().zip(words) {
                     *value = T::from_word(*word);
                 }
-                Ok(scanned)
+                Ok(answer)
             })
         })
     }

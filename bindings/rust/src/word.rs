@@ -42,6 +42,32 @@ use std::time::Duration;
 /// assert_eq!(port.get(state)?, State::Running { job: 7 });
 /// # Ok::<(), Box<dyn std::error::Error + Send + Sync>>(())
 /// ```
+///
+/// A struct packs its fields:
+///
+/// ```
+/// use partial_door::Word;
+///
+/// #[derive(Clone, Copy, Debug, PartialEq)]
+/// struct Span {
+///     start: u32,
+///     length: u16,
+///     is_open: bool,
+/// }
+///
+/// impl Word for Span {
+///     fn to_word(self) -> u64 {
+///         u64::from(self.start) << 32 | u64::from(self.length) << 1 | u64::from(self.is_open)
+///     }
+///
+///     fn from_word(word: u64) -> Span {
+///         Span { start: (word >> 32) as u32, length: (word >> 1) as u16, is_open: word & 1 == 1 }
+///     }
+/// }
+///
+/// let span = Span { start: 7, length: u16::MAX, is_open: true };
+/// assert_eq!(Span::from_word(span.to_word()), span);
+/// ```
 pub trait Word: Sized {
     /// The word of a value.
     fn to_word(self) -> u64;

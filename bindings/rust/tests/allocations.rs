@@ -112,6 +112,21 @@ fn a_call_with_many_components_is_refused() {
 }
 
 #[test]
+fn a_call_with_many_keys_is_refused() {
+    let mut layout = Layout::new();
+    let keys: Vec<_> = (0..100_u32).map(|value| layout.add(value)).collect();
+    let memory = layout.open_with(Memory::builder().ports(1)).expect("a memory is made");
+    let mut port = memory.port().expect("a port is free");
+    let mut into = vec![7; 100];
+    // The components and the words are copied; with stamps the list of these, and the words of these, are wanted too.
+    assert_eq!(refusals(Refused::OutOfMemory, || port.snapshot_slice(&keys, &mut into)), 2);
+    assert_eq!(refusals(Refused::OutOfMemory, || port.snapshot_stamped_slice(&keys, &mut into)), 4);
+    into.fill(7);
+    assert_eq!(with(3, || port.snapshot_stamped_slice(&keys, &mut into)), Err(Refused::OutOfMemory));
+    assert_eq!(into, [7; 100]);
+}
+
+#[test]
 fn no_other_call_of_a_port_takes_memory() {
     let mut layout = Layout::new();
     let key = layout.add(1_u32);

@@ -382,8 +382,9 @@ fn errors_have_the_numbers_of_the_library() {
     assert_eq!(opened.map(OpenError::code), [1, 3, 4, 5, 6]);
     assert_eq!(OpenError::OtherVersion.code(), 31);
     assert_eq!([PortError::OutOfMemory, PortError::Closed, PortError::NoneFree].map(PortError::code), [6, 17, 21]);
-    let refused = [Refused::Component, Refused::Length, Refused::Overtaken, Refused::EpochsSpent, Refused::Stamp];
-    assert_eq!(refused.map(Refused::code), [7, 19, 25, 27, 28]);
+    let refused = [Refused::Component, Refused::Length, Refused::Overtaken, Refused::EpochsSpent];
+    assert_eq!(refused.map(Refused::code), [7, 19, 25, 27]);
+    assert_eq!([Refused::Stamp, Refused::Key, Refused::OutOfMemory].map(Refused::code), [28, 29, 6]);
     let memory = tiny(&[1], 1);
     let _port = memory.port().expect("a port is free");
     let error = memory.close().expect_err("a port is in use");

@@ -7,6 +7,9 @@ use std::mem::{forget, swap};
 use std::panic::{catch_unwind, AssertUnwindSafe};
 use std::thread;
 
+/// The sizes of the openings.
+const SIZES: Sizes = Sizes { slots: 10, list_words: 0, pool_words: 100 };
+
 /// A memory whose epoch changes every few calls.
 fn tiny(ports: u32) -> Memory {
     Memory::builder().ports(ports).list_words(4).pool_words(8).open(&[1, 2]).expect("a memory is made")
@@ -53,9 +56,8 @@ fn a_memory_its_clone_and_its_ports_are_dropped_in_any_order() {
 
 #[test]
 fn an_opening_and_its_ports_are_dropped_in_any_order() {
-    let sizes = Sizes { slots: 10, list_words: 0, pool_words: 100 };
     for order in orders(3) {
-        let (memory, ports) = opening::open(&[1, 2], sizes, 2).expect("a memory opens");
+        let (memory, ports) = opening::open(&[1, 2], SIZES, 2).expect("a memory opens");
         let (mut memory, mut ports) = (Some(memory), ports.into_iter().map(Some).collect::<Vec<_>>());
         for (at, what) in order.into_iter().enumerate() {
             for port in ports.iter_mut().flatten() {
@@ -72,8 +74,7 @@ fn an_opening_and_its_ports_are_dropped_in_any_order() {
 
 #[test]
 fn a_dropped_port_outlives_the_opening_that_took_it_in() {
-    let sizes = Sizes { slots: 10, list_words: 0, pool_words: 100 };
-    let (memory, mut ports) = opening::open(&[1, 2], sizes, 2).expect("a memory opens");
+    let (memory, mut ports) = opening::open(&[1, 2], SIZES, 2).expect("a memory opens");
     drop(ports.pop());
     let mut back = memory.port().expect("it has come back");
     drop(memory);
@@ -102,6 +103,17 @@ fn a_forgotten_memory_leaves_its_ports_whole() {
     forget(memory);
     assert!(port.update(0, 5).expect("it isn't refused").is_applied());
     assert_eq!(port.read(0).expect("it is there").value, 5);
+}
+
+#[test]
+fn a_forgotten_port_of_an_opening_stays_in_use_and_a_forgotten_opening_leaves_its_ports_whole() {
+    let (memory, mut ports) = opening::open(&[1, 2], SIZES, 2).expect("a memory opens");
+    forget(ports.pop());
+    let Err(opening::CloseError::NotAll(memory, mut ports)) = memory.close(ports) else { panic!("a port is in use") };
+    assert_eq!(ports.len(), 1);
+    assert!(ports[0].update(0, 5).expect("there is room").is_applied());
+    forget(memory);
+    assert_eq!(ports[0].read(0).expect("it is there").value, 5);
 }
 
 #[test]
@@ -135,6 +147,16 @@ fn a_panic_in_a_closure_leaves_the_port_and_the_value_whole() {
     assert!(port.set(key, 8).expect("it isn't refused").is_applied());
     drop(port);
     assert_eq!(memory.close().expect("all ports are free"), [8]);
+}
+
+#[test]
+fn a_panic_in_a_closure_leaves_the_port_of_an_opening_whole() {
+    let (memory, mut ports) = opening::open(&[1, 2], SIZES, 1).expect("a memory opens");
+    let port = &mut ports[0];
+    assert!(catch_unwind(AssertUnwindSafe(|| port.modify(1, |_| panic!("a closure")).map(|_| ()))).is_err());
+    assert_eq!(port.read(1).expect("it is there").value, 2);
+    assert!(port.update(1, 3).expect("there is room").is_applied());
+    assert_eq!(memory.close(ports).expect("all ports are there").values(), [1, 3]);
 }
 
 #[test]

@@ -111,6 +111,11 @@ fn a_snapshot_has_the_types_of_its_keys() {
     assert!(matches!(port.snapshot_slice(&[offset, offset], &mut into), Ok(Scanned { collects: 2, borrowed: None })));
     assert_eq!(into, [-3; 2]);
     assert_eq!(port.snapshot_slice(&[offset], &mut into), Err(Refused::Length));
+    assert!(port.set(offset, 9).expect("it isn't refused").is_applied());
+    let stamp = port.read(2).expect("it is there").stamp;
+    assert_eq!(port.snapshot_stamped_slice(&[offset, offset], &mut into), Ok(Some(vec![stamp; 2])));
+    assert_eq!(into, [9; 2]);
+    assert_eq!(port.snapshot_stamped_slice(&[offset], &mut into), Err(Refused::Length));
 }
 
 #[test]
@@ -129,6 +134,10 @@ fn a_snapshot_takes_twelve_keys_and_a_slice_of_many() {
     for count in [1, 63, 64, 65, 200] {
         let mut into = vec![0; count];
         port.snapshot_slice(&keys[200 - count..], &mut into).expect("it isn't refused");
+        assert_eq!(into, (200 - count as u16..200).collect::<Vec<_>>());
+        into.fill(0);
+        let stamps = port.snapshot_stamped_slice(&keys[200 - count..], &mut into).expect("it isn't refused");
+        assert_eq!(stamps.map(|stamps| stamps.len()), Some(count));
         assert_eq!(into, (200 - count as u16..200).collect::<Vec<_>>());
     }
 }
@@ -154,6 +163,7 @@ fn a_key_of_another_memory_is_refused() {
     refused(port.snapshot_stamped((ready, strange)));
     refused(port.snapshot_stamped([strange, load]));
     refused(port.snapshot_slice(&[load, strange], &mut [0.0; 2]));
+    refused(port.snapshot_stamped_slice(&[strange, load], &mut [0.0; 2]));
     assert_eq!(port.set_if(load, other.get_stamped(strange).expect("it is there").stamp, 1.0), Err(Refused::Stamp));
     assert_eq!((port.get(load), other.get(strange)), (Ok(0.25), Ok(0.25)));
 }

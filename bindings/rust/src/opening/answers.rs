@@ -96,7 +96,7 @@ pub enum UpdatedIf {
     /// It had no effect: the component had another stamp than the expected one.
     Changed {
         /// The stamp that it had. The library has looked at no more than this: the value beside it would cost another load
-        /// in each such call. Who wants the present value reads it.
+        /// in each such call. A read returns the present value.
         by: Stamp,
     },
 }

@@ -190,10 +190,11 @@ impl Memory {
                 _ => left.push(port),
             }
         }
-        // SAFETY: the handle is borrowed for the call.
-        let code = match left.is_empty() {
-            true => unsafe { raw::partial_door_opening_close(&mut self.handle) },
-            false => 22,
+        let code = if left.is_empty() {
+            // SAFETY: the handle is borrowed for the call.
+            unsafe { raw::partial_door_opening_close(&mut self.handle) }
+        } else {
+            22
         };
         match code {
             0 => {
