@@ -4,7 +4,7 @@ pub use Rattle.std.specs.{List.{AllByRecursion, range_with_len, list_any}, Prelu
 pub use Rattle.std.proofs.lemmas.{Bool.{cases_lt, eqb-true, false≢true, ltb-false, ltb-true, ne_eqb, or_cases, lt-ltb}, List.{length_push, get_or_append_left, get_or_push, length-map, nil_from_length, get_or_past, take_all}, Result.err_from_is_err_and}
 pub use lib.{ListN.get_elem?, Seq.set-get_or}
 pub use mathlib.Core.Option.{some, some-injective, some-ne-none}
-pub use Rattle.atomic_table.specs.{Seated.TableId, Table.{State, Me, keeps, Allows, Joins, opening, Splits}}
+pub use Rattle.partial_table.specs.Table.{TableId, State, Me, keeps, Allows, Joins, opening, Splits}
 pub use Rattle.partial_model.specs.declared.call.{Call.Call, Note.Note, Refused.Refused}
 pub use Rattle.partial_model.specs.declared.history.{Applied.Applied, Opening.Opening}
 pub use Rattle.partial_model.specs.Notes.{LegalNotes, Noted}

@@ -1,6 +1,6 @@
 -- Memories and ports as callers see them, and what a call leaves of its port.
 use Rattle.std.specs.Prelude.{ℕ, ◌≡◌, ◌+◌, ◌<◌, ◌≤◌, ◌⊎◌, Bool, true, false, ◌||◌, List, [], ◌∷◌, ◌++◌, length, take, map, Option, Some, None}
-use Rattle.atomic_table.specs.Seated.{TableId}
+use Rattle.partial_table.specs.Table.{TableId}
 use Rattle.partial_model.specs.declared.history.Applied.{Applied}
 use Rattle.partial_model.specs.declared.call.Call.{Call}
 use Rattle.partial_model.specs.declared.call.Answer.{Answer}

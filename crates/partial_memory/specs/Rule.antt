@@ -1,7 +1,7 @@
 -- The rule of the table: the parts of all views are those of one lawful state. And what a port learns by its steps.
 use Rattle.std.specs.Prelude.{ℕ, zero, suc, ◌≡◌, ◌+◌, ◌<◌, List, [], ◌∷◌, ◌++◌, length, map, take}
 use Rattle.std.specs.List.{AllByRecursion}
-use Rattle.atomic_table.specs.Table.{State, Step, Me}
+use Rattle.partial_table.specs.Table.{State, Me}
 use Rattle.partial_model.specs.declared.history.Applied.{Applied}
 use Rattle.partial_machine.specs.Machine.{CoreState}
 use Rattle.partial_machine.specs.Sound.{IsSound}
@@ -93,8 +93,8 @@ abbrev pub makes : {S : Type 0} → CoreState → Me S (List SeatedPort) → ℕ
 makes c me a me' = IsOne me' × Told c (one_of me.0) a (one_of me'.0)
 
 -- a further step of the call of a seat: of the machine to which the port's kept answers lead
-abbrev pub goes_on : {S : Type 0} → Step S → Me S (List SeatedPort) → ℕ → Me S (List SeatedPort) → Type 0
-goes_on s me = makes (core_of (one_of me.0).part) me
+abbrev pub goes_on : {S : Type 0} → Me S (List SeatedPort) → ℕ → Me S (List SeatedPort) → Type 0
+goes_on me = makes (core_of (one_of me.0).part) me
 
 -- the first port of a view, as a view of its own
 abbrev pub first_port : List SeatedPort → List SeatedPort

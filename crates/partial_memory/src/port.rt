@@ -5,8 +5,8 @@ ghost use Rattle.partial_memory.specs.Rule.{IsBadgeOfOne, SeatedPort, one_in};
 ghost use Rattle.partial_memory.specs.Ports.{Knows, port_view};
 
 use crate::rule::{PortSeat, View};
-use atomic_table::Badge;
 use partial_core::Core;
+use partial_table::Badge;
 use std::marker::Model;
 use std::mem;
 

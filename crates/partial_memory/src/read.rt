@@ -10,8 +10,8 @@ ghost use Rattle.partial_memory.specs.Inner.Steps.{Begins, CallEnded, IsAtRest};
 use crate::lines::{SeatLines, begin_read};
 use crate::port::take_seat;
 use crate::rule::{View, Words};
-use atomic_table::Badge;
 use partial_core::Core;
+use partial_table::Badge;
 use std::marker::Brand;
 
 /// Makes the steps of a read that isn't refused at once, and returns the value and the stamp of the component.

@@ -9,10 +9,10 @@ ghost use Rattle.partial_memory.specs.Inner.Steps.{Begins, IsAtRest, ScanEnded};
 use crate::lines::{SeatLines, begin_scan};
 use crate::port::take_seat;
 use crate::rule::{PortSeat, View, Words};
-use atomic_table::Badge;
 use partial_core::Core;
 use partial_lines::Scanned;
 use partial_model::Refused;
+use partial_table::Badge;
 use std::marker::Brand;
 
 /// Makes the steps of a scan that isn't refused at once. `into` has the values of the positions then, as the

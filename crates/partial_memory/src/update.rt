@@ -14,9 +14,9 @@ ghost use Rattle.partial_memory.specs.Inner.Steps.{Begins, CallMade, CallEnded, 
 use crate::lines::{SeatLines, begin_update, make};
 use crate::port::take_seat;
 use crate::rule::{PortSeat, View, Words};
-use atomic_table::Badge;
 use partial_core::{Change, Core};
 use partial_lines::{Exchanged, put};
+use partial_table::Badge;
 use partial_words::Step;
 use std::marker::Brand;
 

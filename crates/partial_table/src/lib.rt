@@ -3,11 +3,13 @@
 //! inside is private: whoever uses this crate and not `atomic_table` makes no step that isn't counted.
 #![tactic(auto)]
 
+mod badge;
 mod counted;
 mod seat;
 mod steps;
 mod table;
 
 pub use atomic_table::{Closed, Join, Play, Split, TableRule};
+pub use badge::Badge;
 pub use seat::Seat;
 pub use table::Table;

@@ -1,7 +1,7 @@
 -- Calls that are made in straight lines: the machine of the call is a ghost, to which the kept answers of the seat's port lead.
 use Rattle.std.specs.Prelude.{◌≡◌, List}
-use Rattle.atomic_table.specs.Table.{Me}
-use Rattle.atomic_table.specs.Seated.{TableId}
+use Rattle.partial_table.specs.Table.{Me}
+use Rattle.partial_table.specs.Table.{TableId}
 use Rattle.partial_words.specs.Layout.{total}
 use Rattle.partial_machine.specs.Machine.{CoreState}
 use Rattle.partial_core.specs.Part.{core_of}

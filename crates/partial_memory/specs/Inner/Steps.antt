@@ -1,6 +1,6 @@
 -- The steps that a call makes: how it begins, goes on and ends at its seat.
 use Rattle.std.specs.Prelude.{ℕ, ◌≡◌, ◌+◌, ◌||◌, List, length, Some}
-use Rattle.atomic_table.specs.Seated.{TableId}
+use Rattle.partial_table.specs.Table.{TableId}
 use Rattle.partial_words.specs.Layout.{IsLayout, total}
 use Rattle.partial_machine.specs.declared.stage.Reply.{Reply}
 use Rattle.partial_machine.specs.declared.stage.Stage.TheVariants.{Idle}

@@ -22,4 +22,4 @@ returns-clause-ended c =
       sound = rests.sound;
     } in
     subst (λ (x : SeatedPort). CallEnded (at_stage core (ReadBegun c.args.component)) (one_in c.args.badge.now.views) (Reply.Read c.in-Ok.value c.begin_read-stamp.result) core x)
-    (sym (ap one_in c.into_badge.ensures.2)) ended
+    (sym (ap one_in c.into_badge.ensures.1)) ended

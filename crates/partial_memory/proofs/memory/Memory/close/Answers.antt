@@ -3,7 +3,7 @@ use Rattle.partial_memory.proofs.memory.Memory.close.Goals as goal
 
 pub loop-port-init : goal.loop-port-init
 loop-port-init c =
-    let about : About = c.self.inside.table.shared.key in
+    let about : About = c.self.inside.table.key in
     let own = ap (λ (m : MemoryView). m.about) (c.requires.port ∙ sym c.self.view_is) in
     let one = c.into_seat-seat.ensures.one in
     record {
@@ -38,7 +38,7 @@ loop-port-preserved c =
 pub closed_of-closed-requires : goal.closed_of-closed-requires
 closed_of-closed-requires c =
     let end = c.close_with-words.ensures.values.2 in
-    let e = ends c.self.inside.table.shared.key _ _ _ end.0 end.1.0 end.1.1 end.2 c.loop-port.invariant.own in
+    let e = ends c.self.inside.table.key _ _ _ end.0 end.1.0 end.1.1 end.2 c.loop-port.invariant.own in
     let layout = e.records.sizes in
     let a = layout.components in
     let b = layout.slots in
@@ -51,14 +51,14 @@ closed_of-closed-requires c =
     record {
       full = (c.close_with-words.ensures.values.0, omega (arith, count, words, a.1, b.1, l, p.1));
       count = omega (arith, count, words, long);
-      records = (c.self.inside.table.shared.key.sizes, c.self.inside.table.shared.key.opening, e.log, e.records, search rules);
+      records = (c.self.inside.table.key.sizes, c.self.inside.table.key.opening, e.log, e.records, search rules);
     }
 
 pub returns : goal.returns
 returns c =
     let end = c.close_with-words.ensures.values.2 in
-    let e : Ends c.self.inside.table.shared.key _ _ = ends c.self.inside.table.shared.key _ _ _ end.0 end.1.0 end.1.1 end.2 c.loop-port.invariant.own in
-    let same : c.self.inside.table.shared.key ≡ c.args.self.about = ap (λ (m : MemoryView). m.about) c.self.view_is in
+    let e : Ends c.self.inside.table.key _ _ = ends c.self.inside.table.key _ _ _ end.0 end.1.0 end.1.1 end.2 c.loop-port.invariant.own in
+    let same : c.self.inside.table.key ≡ c.args.self.about = ap (λ (m : MemoryView). m.about) c.self.view_is in
     let words = slots_items c.close_with-words.result.words in
     let here : Ends c.args.self.about words c.loop-port.seat.me.0 = subst (λ (a : About). Ends a words c.loop-port.seat.me.0) same e in
     let count : c.m.result ≡ c.args.self.about.sizes.m = c.m.ensures.value ∙ ap (λ (z : Layout). z.m) c.self.invariant.0 ∙ ap (λ (a : About). a.sizes.m) same in
