@@ -21,5 +21,5 @@ pub use Rattle.partial_core.proofs.Laws.{first_steps_make_calls, further_steps_m
 pub use Rattle.partial_lines.specs.Replies.{scan_reply, RestsLike}
 pub use Rattle.partial_memory.specs.declared.closed.Closed.{Closed}
 pub use Rattle.partial_memory.specs.declared.rule.About.{About}
-pub use Rattle.partial_memory.specs.{Calls.{Meets, Updates, UpdatesIf, met_port, Reads, Scans}, Closing.{Closes, IsPortOf, IsWholeChain, AreValues, AreChains, AreChainsFrom}, Lawfulness.{ClosesLawfully, MeetsLawfully}, Led.{BeganAs, HasMark, IsLed, IsLedToAnswer, IsLedToRefusal, IsLedWhereLate, LateRefusalsArePastEnd, LedCallsClaimOnce, RefusalsAtOnceFit, ScanIsLed, ScansLed}, Ports.{IsOf, MemoryView, PortView, new_ports, port_view, IsResting, Knows, Answered, Goes, IsRefused, refusal, CountsSteps, IsPastEnd, RefusedLate, is_pool, is_slots}, Reopening.{extended_values, ClosedMemoriesContinue, with_zeros}, Rule.{IsShuffle, newcomers, SeatedPort, AreByOpened, Told, AreSeatedOf, IsIn, IsRuleKept, IsLawfulWith, parts_of, AreOpened, flatten, having_met, looks, first_port, one_in, further_ports, newcomer, IsBadgeOfOne, IsOne, makes, one_of}}
-pub use Rattle.partial_memory.specs.Inner.{Endings.{ending_reply, asked_change}, Lines.{IsGoing, IsUnderWay, ComesTo, machine_of}, Steps.{Begins, CallMade, CallEnded}}
+pub use Rattle.partial_memory.specs.{Calls.{Meets, Updates, UpdatesIf, met_port, meeting_steps, Reads, Scans}, Closing.{Closes, IsPortOf, IsWholeChain, AreValues, AreChains, AreChainsFrom}, Lawfulness.{ClosesLawfully, MeetsLawfully}, Led.{BeganAs, HasMark, IsLed, IsLedToAnswer, IsLedToRefusal, IsLedWhereLate, LateRefusalsArePastEnd, LedCallsClaimOnce, RefusalsAtOnceFit, ScanIsLed, ScansLed}, Ports.{IsOf, MemoryView, PortView, new_ports, port_view, without_steps, IsResting, Knows, Answered, Goes, IsRefused, refusal, CountsSteps, IsPastEnd, RefusedLate, is_pool, is_slots}, Reopening.{extended_values, ClosedMemoriesContinue, with_zeros}, Rule.{IsShuffle, newcomers, SeatedPort, AreByOpened, Told, AreSeatedOf, IsIn, IsRuleKept, IsLawfulWith, parts_of, AreOpened, flatten, having_met, looks, first_port, one_in, further_ports, newcomer, IsBadgeOfOne, IsOne, makes, one_of}}
+pub use Rattle.partial_memory.specs.Inner.{Endings.{ending_reply, asked_change}, Lines.{IsGoing, IsUnderWay, ComesTo, CountsOn, machine_of}, Steps.{Begins, CallMade, CallEnded, HasCounted}}

@@ -50,10 +50,10 @@ module _ (about : About) (i n : ℕ) (inside : i < n) (v : List SeatedPort) (lef
   deals_next {S} me at is none = (ap (λ (m : Me S (List SeatedPort)). m.0) is ∙ ap further_ports (left ∙ next_new about i n inside), ap (λ (m : Me S (List SeatedPort)). m.1) is ∙ none)
 
   pub made_next : {S : Type 0} (t : TableId) (all old new : List PortView) (p : PortView) (views : List (List SeatedPort)) (me : Me S (List SeatedPort)) (at : List (ℕ × S)) →
-      all ≡ old ++ new_ports t v → new ≡ old ++ p ∷ [] → views ≡ first_port v ∷ [] → p ≡ port_view t (one_in views) → me ≡ (further_ports v, at) → all ≡ new ++ new_ports t me.0
+      all ≡ old ++ new_ports t v → new ≡ old ++ p ∷ [] → views ≡ first_port v ∷ [] → p ≡ port_view t 1 (one_in views) → me ≡ (further_ports v, at) → all ≡ new ++ new_ports t me.0
   made_next {S} t all old new p views me at made is here port less =
-      let one : p ≡ port_view t (newcomer about i) = port ∙ ap (λ (w : List (List SeatedPort)). port_view t (one_in w)) here ∙
-      ap (λ (w : List SeatedPort). port_view t (one_in (w ∷ []))) newcomer_next in
+      let one : p ≡ port_view t 1 (newcomer about i) = port ∙ ap (λ (w : List (List SeatedPort)). port_view t 1 (one_in w)) here ∙
+      ap (λ (w : List SeatedPort). port_view t 1 (one_in (w ∷ []))) newcomer_next in
       let rest : new_ports t me.0 ≡ new_ports t (newcomers about (i + 1) (n - (i + 1))) =
       ap (λ (m : Me S (List SeatedPort)). new_ports t m.0) less ∙ ap (λ (w : List SeatedPort). new_ports t (further_ports w)) (left ∙ next_new about i n inside) in
       let this : new_ports t v ≡ p ∷ new_ports t me.0 =

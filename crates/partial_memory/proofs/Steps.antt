@@ -65,7 +65,7 @@ module _ (words : List ℕ) (before : List SeatedPort) (x : SeatedPort) (after :
 
   -- the port behind the step, and the history
   abbrev pub next : SeatedPort
-  next = record { about = x.about; part = leads.y; steps = x.steps + 1 }
+  next = record { about = x.about; part = leads.y }
 
   abbrev pub longer : List Applied
   longer = log ++ added_by x.about.sizes (port_of x.part) words s
@@ -87,7 +87,6 @@ module _ (words : List ℕ) (before : List SeatedPort) (x : SeatedPort) (after :
       let seen : leads.y.seen ≡ longer = ap (λ (v : Part). v.seen) leads.tells.part in
       record {
         about = refl;
-        steps = refl;
         sound = ready.sound;
         log = log;
         entries = added_by x.about.sizes (port_of x.part) words s;

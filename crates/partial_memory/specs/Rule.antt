@@ -10,11 +10,10 @@ use Rattle.partial_core.specs.Lawful.{Lawful}
 use Rattle.partial_core.specs.Steps.{FitsHistory, Tells}
 use Rattle.partial_memory.specs.declared.rule.About.{About}
 
--- what a seat knows of a port: the memory that it belongs to, the port's part of the lawful state, and how many steps it has made
+-- what a seat knows of a port: the memory that it belongs to, and the port's part of the lawful state
 pub record SeatedPort : Type 0 where
   pub about : About
   pub part : Part
-  pub steps : ℕ
 
 -- the ports of all views
 abbrev pub flatten : List (List SeatedPort) → List SeatedPort
@@ -44,7 +43,7 @@ pub record IsRuleKept {S : Type 0} (about : About) (s : State S (List SeatedPort
 
 -- a port that has made no call
 abbrev pub newcomer : About → ℕ → SeatedPort
-newcomer about port = record { about = about; part = fresh_part about.sizes port; steps = 0 }
+newcomer about port = record { about = about; part = fresh_part about.sizes port }
 
 -- n such ports from that number on
 abbrev pub newcomers : About → ℕ → ℕ → List SeatedPort
@@ -81,7 +80,6 @@ AreByOpened about h = AllByRecursion (λ e. e.port < about.ports) h
 -- what a seat learns by a step of the machine c: what its port learns by the law of steps, and that each entry is by a port that was opened
 pub record Told (c : CoreState) (x : SeatedPort) (a : ℕ) (y : SeatedPort) : Type 0 where
   pub about : y.about ≡ x.about
-  pub steps : y.steps ≡ x.steps + 1
   pub sound : IsSound c
   pub log : List Applied
   pub entries : List Applied
@@ -106,13 +104,9 @@ abbrev pub further_ports : List SeatedPort → List SeatedPort
 further_ports [] = []
 further_ports (x ∷ xs) = xs
 
--- how many loads a meeting makes: one as the seats are joined, one to look, and one as they are split
-abbrev pub meeting_steps : ℕ
-meeting_steps = 3
-
 -- the port after it has observed that history in a meeting
 abbrev pub having_met : List Applied → SeatedPort → SeatedPort
-having_met log x = record { about = x.about; part = with_seen log x.part; steps = x.steps + meeting_steps }
+having_met log x = record { about = x.about; part = with_seen log x.part }
 
 -- the port has seen a beginning of the history, and knows what a port knows of it
 pub record IsIn (log : List Applied) (x : SeatedPort) : Type 0 where

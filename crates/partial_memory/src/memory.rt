@@ -87,7 +87,7 @@ fn deal(
     requires sizes { words.now.key.sizes ≡ sizes }
     requires few { ports ≤ 64 }
     requires table { (seat.table_id ≡ words.now.table_id) × (0 < words.now.table_id.words) }
-    requires all { seat.me ≡ (newcomers words.now.key 0 ports, []) }
+    requires all { (seat.me ≡ (newcomers words.now.key 0 ports, [])) × (seat.steps ≡ 0) }
     ensures { IfOk result (λ a. a.items ≡ new_ports words.now.table_id (newcomers words.now.key 0 ports)) }
 {
     let mut all = Vec::with_capacity(alloc, ports as usize)?;
@@ -284,7 +284,8 @@ impl Memory {
         scan(&self.table, &mut me.badge, &mut me.core, which, into)
     }
 
-    /// Merges what two ports have observed. Takes three atomic steps.
+    /// Merges what two ports have observed. Takes three atomic steps. From then on the steps of both ports count for the
+    /// first one.
     pub fn meet(&self, first: &mut Port, second: &mut Port)
         requires { IsOf self.now first.old × IsOf self.now second.old }
         ensures same { IsOf self.now first.new × IsOf self.now second.new }

@@ -1,4 +1,4 @@
-use Rattle.partial_memory.proofs.{Common.{rules, [], ◌∷◌, ◌≡◌, ap, ◌∙◌, List, Me, TableId, IsLayout, SeatedPort, one_in, port_view}, Opens.{rests_new, deals_next, made_next}, Views.deals}
+use Rattle.partial_memory.proofs.{Common.{ℕ, rules, [], ◌∷◌, ◌≡◌, ◌+◌, ap, ◌∙◌, List, Me, TableId, IsLayout, SeatedPort, one_in, port_view}, Opens.{rests_new, deals_next, made_next}, Views.deals}
 use Rattle.partial_memory.proofs.memory.deal.Goals as goal
 
 pub split_seat-place-requires : goal.split_seat-place-requires
@@ -19,11 +19,13 @@ loop-number-preserved c =
     let place = ap (λ (m : Me (Unit {0}) (List SeatedPort)). m.0) split.4 in
     let here : c.into_badge.result.table_id ≡ c.args.words.now.table_id = c.into_badge.ensures.0 ∙ split.3 ∙ inv.table in
     let one = c.into_badge.ensures.1 ∙ ap (λ (v : List SeatedPort). v ∷ []) place in
-    let seen = ap (λ (t : TableId). port_view t (one_in c.into_badge.result.views)) here in
+    let count = c.into_badge.ensures.2 ∙ split.6 ∙ ap (λ (n : ℕ). n + 1) inv.steps in
+    let seen = ap (λ (t : TableId). port_view t c.into_badge.result.steps (one_in c.into_badge.result.views)) here ∙ ap (λ (n : ℕ). port_view c.args.words.now.table_id n (one_in c.into_badge.result.views)) count in
     record {
       table = split.0 ∙ inv.table;
       parts = left.0;
       none = left.1;
+      steps = split.5;
       made = made_next _ _ _ c.loop-number-test.true _ inv.parts _ _ _ _ _ _ _ _ inv.made c.push_reserved.ensures.items one seen split.2;
       many = search rules;
       room = search rules;

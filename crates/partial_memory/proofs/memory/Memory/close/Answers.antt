@@ -8,10 +8,10 @@ loop-port-init c =
     let one = c.into_seat-seat.ensures.one in
     record {
       table = search rules;
-      own = own_one _ _ one.0 c.args.port about one.1 one.2 own;
+      own = own_one _ _ _ one.0 c.args.port about one.1 one.2 own;
       left = c.requires.rest;
-      taken = taken_none _ c.args.self.table one.0 c.args.port c.args.rest.items one.1
-          (ap (λ (t : TableId). port_view t one.0) (sym (ap (λ (m : MemoryView). m.table) c.requires.port)) ∙ one.2);
+      taken = taken_none _ c.args.self.table _ one.0 c.args.port c.args.rest.items one.1
+          (ap (λ (t : TableId). port_view t c.into_seat-seat.result.steps one.0) (sym (ap (λ (m : MemoryView). m.table) c.requires.port)) ∙ one.2);
     }
 
 pub join_seat-requires : goal.join_seat-requires
@@ -29,10 +29,10 @@ loop-port-preserved c =
     let own = ap (λ (m : MemoryView). m.about) (of.1 ∙ sym c.self.view_is) in
     record {
       table = c.join_seat.ensures.0 ∙ c.loop-port.invariant.table;
-      own = own_more _ _ _ _ c.loop-port.invariant.own (own_one _ _ one.0 _ _ one.1 one.2 own) join;
+      own = own_more _ _ _ _ c.loop-port.invariant.own (own_one _ _ _ one.0 _ _ one.1 one.2 own) join;
       left = of.0;
-      taken = taken_more _ c.args.self.table one.0 c.args.port _ _ _ _ _ _ c.loop-port.invariant.taken c.in-Some.ensures.items one.1
-          (ap (λ (t : TableId). port_view t one.0) (sym (ap (λ (m : MemoryView). m.table) of.1)) ∙ one.2) join;
+      taken = taken_more _ c.args.self.table _ one.0 c.args.port _ _ _ _ _ _ c.loop-port.invariant.taken c.in-Some.ensures.items one.1
+          (ap (λ (t : TableId). port_view t c.into_seat.result.steps one.0) (sym (ap (λ (m : MemoryView). m.table) of.1)) ∙ one.2) join;
     }
 
 pub closed_of-closed-requires : goal.closed_of-closed-requires
