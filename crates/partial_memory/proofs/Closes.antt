@@ -1,5 +1,5 @@
 -- A memory that is closed: the ports that were handed in, and the last state.
-use Rattle.partial_memory.proofs.{Common.{ℕ, ◌≡◌, ◌++◌, List, [], ◌∷◌, length, map, refl, sym, ap, subst, ◌∙◌, append_assoc, append-nil, AllByRecursion, nil_from_length, some, get_elem?, State, Me, TableId, Applied, all_append, all_back, all_front, total, RecordsAreWithin, lawful_ports_fit, lawful_records_are_within, About, SeatedPort, AreByOpened, AreSeatedOf, IsIn, IsRuleKept, IsLawfulWith, IsShuffle, parts_of, IsOf, MemoryView, PortView, port_view, without_steps, AreChains, AreValues, Closes, IsPortOf, Closed, ClosesLawfully}, Looks.{see_all, to_front}, Shuffles.put_elsewhere, Steps.entries_opened, Views.around}
+use Rattle.partial_memory.proofs.{Common.{around, ℕ, ◌≡◌, ◌++◌, List, [], ◌∷◌, length, map, refl, sym, ap, subst, ◌∙◌, append_assoc, append-nil, AllByRecursion, nil_from_length, some, get_elem?, State, Me, TableId, Applied, all_append, all_back, all_front, total, RecordsAreWithin, lawful_ports_fit, lawful_records_are_within, About, SeatedPort, AreByOpened, AreSeatedOf, IsIn, IsRuleKept, IsLawfulWith, IsShuffle, parts_of, MemoryView, PortView, port_view, without_steps, AreChains, AreValues, Closes, IsPortOf, Closed, ClosesLawfully}, Looks.{see_all, to_front}, Shuffles.put_elsewhere, Steps.entries_opened}
 
 -- what a history tells of a port is what the port knows of it
 port_in : (t : TableId) (n : ℕ) (log : List Applied) (x : SeatedPort) → IsIn log x → IsPortOf log (port_view t n x)
@@ -59,12 +59,6 @@ own_one {S} me t n x p about is seen own = subst (λ (m : Me S (List SeatedPort)
 
 pub own_more : (v w both : List SeatedPort) (about : About) → AreSeatedOf about v → AreSeatedOf about w → both ≡ v ++ w → AreSeatedOf about both
 own_more v w both about a b is = subst (AreSeatedOf about) (sym is) (all_append (λ (x : SeatedPort). x.about ≡ about) v w a b)
-
-pub of_last : (m : MemoryView) (rest less : List PortView) (p : PortView) → AllByRecursion (IsOf m) rest → rest ≡ less ++ p ∷ [] → AllByRecursion (IsOf m) less × IsOf m p
-of_last m rest less p w is =
-    let v : AllByRecursion (IsOf m) (less ++ p ∷ []) = subst (AllByRecursion (IsOf m)) is w in
-    let last = all_back (IsOf m) less (p ∷ []) v in
-    (all_front (IsOf m) less (p ∷ []) v, last.0)
 
 -- the last state: its words have the records of one history, which all ports of the seat have seen
 pub record Ends (about : About) (words : List ℕ) (v : List SeatedPort) : Type 0 where

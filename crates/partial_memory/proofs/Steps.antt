@@ -1,5 +1,5 @@
 -- Each step that is due is allowed: whatever the table is then, the words and the ports of all seats stay those of a lawful state.
-use Rattle.partial_memory.proofs.{Common.{ℕ, zero, suc, ◌≡◌, ◌+◌, ◌<◌, ◌==◌, ◌%◌, ◌^◌, ◌++◌, Bool, true, false, if◌then◌else◌, Some, List, [], ◌∷◌, map, slice_index, slice_set, refl, sym, ap, subst, ◌∙◌, arith, AllByRecursion, some, get_elem?, Me, keeps, Allows, Applied, Step, Load, Store, Exchange, Add, word_of, answer_of, words_after, CoreState, step_of, all_at, all_join, all_before, all_after, Part, IsMachineOf, port_of, Lawful, LeadsOn, added_by, steps_stay_lawful, lawful_ports_fit, lawful_machines_are_ready, About, SeatedPort, AreOpened, AreByOpened, Told, IsRuleKept, IsShuffle, IsOne, one_of, parts_of, makes, Contains, set-get_or}, Shuffles.find, Views.around}
+use Rattle.partial_memory.proofs.{Common.{around, ℕ, zero, suc, ◌≡◌, ◌+◌, ◌<◌, ◌==◌, ◌%◌, ◌^◌, ◌++◌, Bool, true, false, if◌then◌else◌, Some, List, [], ◌∷◌, map, slice_index, slice_set, refl, sym, ap, subst, ◌∙◌, arith, AllByRecursion, some, get_elem?, Me, keeps, Allows, Applied, Step, Load, Store, Exchange, Add, word_of, answer_of, words_after, CoreState, step_of, all_at, all_join, all_before, all_after, Part, IsMachineOf, port_of, Lawful, LeadsOn, added_by, steps_stay_lawful, lawful_ports_fit, lawful_machines_are_ready, About, SeatedPort, AreOpened, AreByOpened, Told, IsRuleKept, IsShuffle, IsOne, one_of, parts_of, makes, Contains, set-get_or}, Shuffles.find}
 use prog.Atomic.{either}
 use Rattle.partial_core.specs.{Lawful.LawfulAmong, Part.PartAmong}
 

@@ -1,6 +1,7 @@
 -- The rule of the table: the parts of all views are those of one lawful state. And what a port learns by its steps.
-use Rattle.std.specs.Prelude.{ℕ, zero, suc, ◌≡◌, ◌+◌, ◌<◌, List, [], ◌∷◌, ◌++◌, length, map, take}
+use Rattle.std.specs.Prelude.{ℕ, ◌≡◌, ◌<◌, List, [], ◌∷◌, ◌++◌, length, map, take}
 use Rattle.std.specs.List.{AllByRecursion}
+use Rattle.partial_table.specs.Seats.{flatten, numbered}
 use Rattle.partial_table.specs.Table.{State, Me}
 use Rattle.partial_model.specs.declared.history.Applied.{Applied}
 use Rattle.partial_machine.specs.Machine.{CoreState}
@@ -14,11 +15,6 @@ use Rattle.partial_memory.specs.declared.rule.About.{About}
 pub record SeatedPort : Type 0 where
   pub about : About
   pub part : Part
-
--- the ports of all views
-abbrev pub flatten : List (List SeatedPort) → List SeatedPort
-flatten [] = []
-flatten (v ∷ vs) = v ++ flatten vs
 
 -- the parts of these ports
 abbrev pub parts_of : List SeatedPort → List Part
@@ -47,8 +43,7 @@ newcomer about port = record { about = about; part = fresh_part about.sizes port
 
 -- n such ports from that number on
 abbrev pub newcomers : About → ℕ → ℕ → List SeatedPort
-newcomers about port zero = []
-newcomers about port (suc n) = newcomer about port ∷ newcomers about (port + 1) n
+newcomers about port n = numbered (newcomer about) port n
 
 -- what is taken for a port when a view has none
 abbrev pub nobody : SeatedPort
@@ -93,16 +88,6 @@ makes c me a me' = IsOne me' × Told c (one_of me.0) a (one_of me'.0)
 -- a further step of the call of a seat: of the machine to which the port's kept answers lead
 abbrev pub goes_on : {S : Type 0} → Me S (List SeatedPort) → ℕ → Me S (List SeatedPort) → Type 0
 goes_on me = makes (core_of (one_of me.0).part) me
-
--- the first port of a view, as a view of its own
-abbrev pub first_port : List SeatedPort → List SeatedPort
-first_port [] = []
-first_port (x ∷ xs) = x ∷ []
-
--- the ports of a view but the first
-abbrev pub further_ports : List SeatedPort → List SeatedPort
-further_ports [] = []
-further_ports (x ∷ xs) = xs
 
 -- the port after it has observed that history in a meeting
 abbrev pub having_met : List Applied → SeatedPort → SeatedPort

@@ -103,7 +103,7 @@ impl Play<(), View> for Looks {
 pub struct Deals;
 
 impl Split<View> for Deals {
-    ghost use Rattle.partial_memory.specs.Rule.{first_port, further_ports};
+    ghost use Rattle.partial_table.specs.Seats.{first_port, further_ports};
 
     ghost left = { further_ports };
 

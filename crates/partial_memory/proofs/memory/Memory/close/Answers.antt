@@ -1,4 +1,4 @@
-use Rattle.partial_memory.proofs.{Common.{rules, ◌≡◌, ap, sym, ◌∙◌, subst, List, arith, slots_items, Me, Layout, About, TableId, SeatedPort, MemoryView, port_view}, Looks.gathers, Closes.{Ends, taken_none, taken_more, own_one, own_more, of_last, ends, closes}}
+use Rattle.partial_memory.proofs.{Common.{IsOf, of_last, rules, ◌≡◌, ap, sym, ◌∙◌, subst, List, arith, slots_items, Me, Layout, About, TableId, SeatedPort, MemoryView, port_view}, Looks.gathers, Closes.{Ends, taken_none, taken_more, own_one, own_more, ends, closes}}
 use Rattle.partial_memory.proofs.memory.Memory.close.Goals as goal
 
 pub loop-port-init : goal.loop-port-init
@@ -16,14 +16,14 @@ loop-port-init c =
 
 pub join_seat-requires : goal.join_seat-requires
 join_seat-requires c =
-    let of = of_last c.args.self _ _ _ c.loop-port.invariant.left c.in-Some.ensures.items in
+    let of = of_last (IsOf c.args.self) _ _ _ c.loop-port.invariant.left c.in-Some.ensures.items in
     let one = c.into_seat.ensures.one in
     let table = c.into_seat.ensures.table ∙ ap (λ (m : MemoryView). m.table) (of.1 ∙ sym c.self.view_is) in
     (c.loop-port.invariant.table, table, ap (λ (m : Me (Unit {0}) (List SeatedPort)). m.1) one.1, search rules, gathers _ _ _ _ _ one.0 (ap (λ (m : Me (Unit {0}) (List SeatedPort)). m.0) one.1))
 
 pub loop-port-preserved : goal.loop-port-preserved
 loop-port-preserved c =
-    let of = of_last c.args.self _ _ _ c.loop-port.invariant.left c.in-Some.ensures.items in
+    let of = of_last (IsOf c.args.self) _ _ _ c.loop-port.invariant.left c.in-Some.ensures.items in
     let one = c.into_seat.ensures.one in
     let join = ap (λ (m : Me (Unit {0}) (List SeatedPort)). m.0) c.join_seat.ensures.2 in
     let own = ap (λ (m : MemoryView). m.about) (of.1 ∙ sym c.self.view_is) in
