@@ -20,7 +20,10 @@ BY_HAND = 'its proof is written by hand, with no goal that an edit can name'
 WITHOUT = {
     'partial_door': {'Handle::held': BY_HAND, 'Parts::of': BY_HAND, 'Parts::into_box': BY_HAND},
     'partial_epochs': {'law::seen_records_stay': 'the one that it had was shown to be equal to the right one, and no other was tried yet'},
-    'partial_table': {'Table::close_with': 'it has no other closed table to give'},
+    'partial_table': {
+        'Badge::blank': 'it has no other badge to give', 'Badge::into_seat': 'it has no other seat to give',
+        'Table::close_with': 'it has no other closed table to give',
+    },
     'partial_text': {'Device::into_inner': 'it has no other value of any type to give'},
 }
 # What a crate's root or a module offers, and the head of a public function.

@@ -20,8 +20,8 @@ Answered AreAllPorts AreByOpened ClosedWithAllPorts Closes ClosesLawfully Closes
 IsPortOf IsRefused Knows MayNotOpen Meets MemoryView OpenedPortsAreAll PortView Reads Scans Updates UpdatesIf new_ports
 open_code port_view
 
-CallMade ComesTo IsGoing IsOne IsResting IsRuleKept IsUnderWay SeatedPort first_port flatten further_ports
-asked_change goes_on leads_itself leads_on makes newcomer newcomers nobody one_of
+CallMade ComesTo IsGoing IsOne IsResting IsRuleKept IsUnderWay SeatedPort asked_change goes_on leads_itself leads_on
+makes newcomer newcomers nobody one_of
 '''.split())
 # The kit's other name of what definitions and proofs call so.
 OTHERS = {

@@ -1,5 +1,5 @@
 -- A memory that is closed: the ports that were handed in, and the last state.
-use Rattle.partial_long_lived.proofs.{Common.{ℕ, ◌≡◌, ◌<◌, ◌++◌, List, [], ◌∷◌, length, sym, ap, subst, ◌∙◌, append_assoc, append-nil, arith, take, AllByRecursion, take-append_seam, nil_from_length, some, get_elem?, State, Me, TableId, Applied, IsHistory, value_of, LegalNotes, EachOnce, all_back, all_front, all_weaker, Port, one_history, epochs_fit_one_history, About, Shape, IsRuleKept, IsSeat, SeatedPort, plan_of, IsShapeOf, bare, shape_plan, AreByOpened, IsOf, MemoryView, PortView, port_view, seen_in, HaveLast, ReadsLast, value_now, slice_index, Closes, IsPortOf, HasLawfulState, Noted, refl, ClosesLawfully}, Current.{have_last, value_last}, Seen.seen_begins, Views.around}
+use Rattle.partial_long_lived.proofs.{Common.{around, ℕ, ◌≡◌, ◌<◌, ◌++◌, List, [], ◌∷◌, length, sym, ap, subst, ◌∙◌, append_assoc, append-nil, arith, take, AllByRecursion, take-append_seam, nil_from_length, some, get_elem?, State, Me, TableId, Applied, IsHistory, value_of, LegalNotes, EachOnce, all_back, all_front, all_weaker, Port, one_history, epochs_fit_one_history, About, Shape, IsRuleKept, IsSeat, SeatedPort, plan_of, IsShapeOf, bare, shape_plan, AreByOpened, MemoryView, PortView, port_view, seen_in, HaveLast, ReadsLast, value_now, slice_index, Closes, IsPortOf, HasLawfulState, Noted, refl, ClosesLawfully}, Current.{have_last, value_last}, Seen.seen_begins}
 
 -- the ports of these seats are ports of that history, as callers see them, whatever steps they have made
 abbrev pub ArePortsOf : TableId → List Applied → List SeatedPort → Type 0
@@ -30,12 +30,6 @@ taken_more {S} me t n x port p all rest less v w had pop is seen join = record {
       let g = had.each log (all_front (λ (y : SeatedPort). (k : ℕ) → IsPortOf log (port_view t k y)) v me.0 both) in
       (g.0, (subst (IsPortOf log) seen (back.0 n), g.1));
 }
-
-pub of_last : (m : MemoryView) (rest less : List PortView) (p : PortView) → AllByRecursion (IsOf m) rest → rest ≡ less ++ p ∷ [] → AllByRecursion (IsOf m) less × IsOf m p
-of_last m rest less p w is =
-    let v : AllByRecursion (IsOf m) (less ++ p ∷ []) = subst (AllByRecursion (IsOf m)) is w in
-    let last = all_back (IsOf m) less (p ∷ []) v in
-    (all_front (IsOf m) less (p ∷ []) v, last.0)
 
 -- the last state: one history, of which all ports of the seat are ports, and after which the words have these values
 pub record Ends (about : About) (words : List ℕ) (v : List SeatedPort) : Type 0 where

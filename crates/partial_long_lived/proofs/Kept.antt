@@ -1,5 +1,5 @@
 -- A step of one seat keeps the rule.
-use Rattle.partial_long_lived.proofs.{Common.{ℕ, ◌≡◌, ◌≢◌, ◌+◌, ◌<◌, ◌≤◌, ◌==◌, ◌++◌, if◌then◌else◌, Option, Some, None, IfSome, List, [], ◌∷◌, length, slice_index, slice_set, refl, sym, ap, subst, ◌∙◌, arith, append-nil, length-append, AllByRecursion, some, get_elem?, Me, Allows, keeps, Applied, LegalNotes, Noted, all_at, all_join, all_before, all_after, all_weaker, Port, Beside, IsEpochPlan, site_now, Reckons, Reckoning, history_longer, LawfulMemory, option_map_or, behind_both, IsSite, carried_after, stamp_after, history_of, opened_after, public_log, public_stamp, value_of, About, Began, Found, BeganInTime, IsFinal, IsRuleKept, IsSeat, IsSeen, IsSince, SeatedPort, one_of, plan_of, seats_of, Knows, seen_in, BeginsWith, SeatGoes, IsSeatKnown, IsOne, tells, HasRecordStamps, Search, IsSearching}, Seen.{fits_of, knows_of, own_of, seen_begins}, Views.{around, others_all, seat_own, seats_both}}
+use Rattle.partial_long_lived.proofs.{Common.{around, ℕ, ◌≡◌, ◌≢◌, ◌+◌, ◌<◌, ◌≤◌, ◌==◌, ◌++◌, if◌then◌else◌, Option, Some, None, IfSome, List, [], ◌∷◌, length, slice_index, slice_set, refl, sym, ap, subst, ◌∙◌, arith, append-nil, length-append, AllByRecursion, some, get_elem?, Me, Allows, keeps, Applied, LegalNotes, Noted, all_at, all_join, all_before, all_after, all_weaker, Port, Beside, IsEpochPlan, site_now, Reckons, Reckoning, history_longer, LawfulMemory, option_map_or, behind_both, IsSite, carried_after, stamp_after, history_of, opened_after, public_log, public_stamp, value_of, About, Began, Found, BeganInTime, IsFinal, IsRuleKept, IsSeat, IsSeen, IsSince, SeatedPort, one_of, plan_of, seats_of, Knows, seen_in, BeginsWith, SeatGoes, IsSeatKnown, IsOne, tells, HasRecordStamps, Search, IsSearching}, Seen.{fits_of, knows_of, own_of, seen_begins}, Views.{others_all, seat_own, seats_both}}
 use Rattle.partial_epochs.proofs.Last.{none_here, stays}
 
 -- The histories of all epochs have grown: that of the epoch after these has at most gained entries, for components of which that is so.

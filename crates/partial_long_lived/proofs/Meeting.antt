@@ -1,5 +1,5 @@
 -- The step by which one port of a seat of two sees all of its epoch.
-use Rattle.partial_long_lived.proofs.{Common.{ℕ, ◌≡◌, ◌<◌, ◌≤◌, ◌++◌, List, [], ◌∷◌, length, slice_index, slice_set, refl, sym, ap, subst, ◌∙◌, arith, Option, append-nil, append_assoc, length-append, AllByRecursion, Me, Allows, keeps, Applied, Noted, all_at, all_after, history_of, public_log, Port, Stands, Beside, site_now, LawfulMemory, having_seen, one_history, Reckons, Reckoning, history_grows, history_longer, About, Began, Found, BeganInTime, IsRuleKept, IsSeat, SeatedPort, one_of, plan_of, seats_of, seen_in, BeginsWith, IsSeatKnown, IsOne, Observes, observes, Contention, Knows, LegalNotes}, Begins.{now, now_has_begun, seen_few}, Kept.{Moved, goes_then, once_then, seats_then}, Loads.{begun_place, moved_glance, seat_at, seat_is, standing, where_is}, Seen.seen_begins, Views.around, Seen.{knows_of, legal_begins}}
+use Rattle.partial_long_lived.proofs.{Common.{around, ℕ, ◌≡◌, ◌<◌, ◌≤◌, ◌++◌, List, [], ◌∷◌, length, slice_index, slice_set, refl, sym, ap, subst, ◌∙◌, arith, Option, append-nil, append_assoc, length-append, AllByRecursion, Me, Allows, keeps, Applied, Noted, all_at, all_after, history_of, public_log, Port, Stands, Beside, site_now, LawfulMemory, having_seen, one_history, Reckons, Reckoning, history_grows, history_longer, About, Began, Found, BeganInTime, IsRuleKept, IsSeat, SeatedPort, one_of, plan_of, seats_of, seen_in, BeginsWith, IsSeatKnown, IsOne, Observes, observes, Contention, Knows, LegalNotes}, Begins.{now, now_has_begun, seen_few}, Kept.{Moved, goes_then, once_then, seats_then}, Loads.{begun_place, moved_glance, seat_at, seat_is, standing, where_is}, Seen.seen_begins, Seen.{knows_of, legal_begins}}
 
 -- of two beginnings of a history the longer one begins with the other
 begins_within : (h l m : List Applied) → BeginsWith h m → BeginsWith l m → length h ≤ length l → BeginsWith h l

@@ -1,5 +1,5 @@
 -- A port gets a seat of its own, and seats are gathered.
-use Rattle.partial_long_lived.proofs.{Common.{ℕ, zero, suc, ◌≡◌, ◌≢◌, ◌++◌, List, [], ◌∷◌, slice_set, refl, sym, ap, subst, ◌∙◌, arith, append-nil, AllByRecursion, get_elem?, Joins, Splits, State, all_after, all_append, all_at, all_back, all_before, all_front, About, IsRuleKept, IsSeat, SeatedPort, first_port, flatten, further_ports, seats_of}, Views.{around, flatten-snoc, seats_both}}
+use Rattle.partial_long_lived.proofs.{Common.{ℕ, zero, suc, ◌≡◌, ◌≢◌, ◌++◌, List, [], ◌∷◌, slice_set, refl, sym, ap, subst, ◌∙◌, arith, AllByRecursion, get_elem?, Joins, Splits, State, all_after, all_append, all_at, all_back, all_before, all_front, About, IsRuleKept, IsSeat, SeatedPort, first_port, flatten, further_ports, seats_of, around, dealt_first, dealt_none}, Views.seats_both}
 
 -- the rule holds with the same seats in other views
 regrouped : {S : Type 0} (about : About) (s : State S (List SeatedPort)) (views : List (List SeatedPort)) (kept : IsRuleKept about s) →
@@ -20,12 +20,12 @@ regrouped about s views kept seats same = record {
 pub deals : {S : Type 0} (about : About) (id : ℕ) (v : List SeatedPort) → Splits {S = S} (IsRuleKept about) id v (further_ports v) (first_port v)
 deals about id [] s kept at =
     let r = around s.views id [] at in
-    let same : flatten (slice_set s.views id [] ++ [] ∷ []) ≡ flatten s.views = flatten-snoc (slice_set s.views id []) [] ∙ append-nil (flatten (slice_set s.views id [])) ∙ r.renewed [] ∙ sym r.now in
+    let same = dealt_none s.views id r in
     regrouped about s (slice_set s.views id [] ++ [] ∷ []) kept (subst (AllByRecursion (IsSeat about s.words kept.ports kept.notes kept.beside kept.reckoned)) (sym same) kept.seats) (λ k. ap (seats_of k) same)
 deals about id (x ∷ xs) s kept at =
     let P : SeatedPort → Type 0 = IsSeat about s.words kept.ports kept.notes kept.beside kept.reckoned in
     let r = around s.views id (x ∷ xs) at in
-    let then : flatten (slice_set s.views id xs ++ (x ∷ []) ∷ []) ≡ (r.before ++ (xs ++ r.behind)) ++ x ∷ [] = flatten-snoc (slice_set s.views id xs) (x ∷ []) ∙ ap (λ l. l ++ x ∷ []) (r.renewed xs) in
+    let then = dealt_first s.views id x xs r in
     let all : AllByRecursion P (r.before ++ x ∷ (xs ++ r.behind)) = subst (AllByRecursion P) r.now kept.seats in
     regrouped about s (slice_set s.views id xs ++ (x ∷ []) ∷ []) kept
     (subst (AllByRecursion P) (sym then) (all_append P (r.before ++ (xs ++ r.behind)) (x ∷ [])

@@ -1,5 +1,5 @@
 -- A memory as it opens, and its ports.
-use Rattle.partial_long_lived.proofs.{Common.{AllByRecursion, ℕ, zero, suc, ◌≡◌, ◌+◌, ◌-◌, ◌<◌, ◌++◌, false, List, [], ◌∷◌, length, refl, sym, ap, subst, ◌∙◌, arith, append_assoc, Me, TableId, Opening, Layout, pool_base, CoreState, fresh, IsBetween, ports_come_between, base, whole, OpensAll, About, Shape, Stand, SeatedPort, first_port, newcomer, newcomers, one_of, further_ports, plan_of, IsShapeOf, shape_plan, IsOf, PortView, new_ports, port_view, IsResting, IsSeatKnown, port_at, OpensShape, most_ahead, IsLayout, fresh_part, claimed_end, ◌≤◌}, Opens.newcomer_known}
+use Rattle.partial_long_lived.proofs.{Common.{AllByRecursion, ℕ, zero, suc, ◌≡◌, ◌+◌, ◌<◌, false, List, [], ◌∷◌, length, refl, sym, ap, subst, ◌∙◌, arith, Me, TableId, Opening, Layout, pool_base, CoreState, fresh, IsBetween, ports_come_between, base, whole, OpensAll, About, Shape, Stand, SeatedPort, first_port, newcomer, newcomers, one_of, plan_of, IsShapeOf, shape_plan, IsOf, new_ports, IsResting, IsSeatKnown, port_at, OpensShape, most_ahead, IsLayout, fresh_part, claimed_end, ◌≤◌}, Opens.newcomer_known}
 use Rattle.partial_long_lived.specs.Inner.Opening.{IsLaidOut}
 
 -- the opening words are those of an opening with the same values and the same stamp
@@ -26,9 +26,6 @@ is_opened a key words table seat me n opens is count slots fits all = record {
 pub new_own : (t : TableId) (a : About) (k n : ℕ) → AllByRecursion (IsOf (record { table = t; about = a })) (new_ports t (newcomers a k n))
 new_own t a k zero = tt
 new_own t a k (suc n) = (refl, new_own t a (k + 1) n)
-
-next_new : (a : About) (i n : ℕ) → i < n → newcomers a i (n - i) ≡ newcomer a i ∷ newcomers a (i + 1) (n - (i + 1))
-next_new a i n l = let e : n - i ≡ suc (n - (i + 1)) = omega arith in ap (newcomers a i) e
 
 -- so many words ahead make no other machine
 ahead_between : (z : Layout) (i n : ℕ) → IsLayout z → n ≤ most_ahead → IsBetween (fresh_part z i) (record (fresh z i) { ahead = n })
@@ -79,24 +76,8 @@ newcomer_rests a words w i low s core count me shape number epoch arena base_is 
       };
     }
 
-module _ (a : About) (i n : ℕ) (inside : i < n) (v : List SeatedPort) (left : v ≡ newcomers a i (n - i)) where
-  pub newcomer_next : first_port v ≡ newcomer a i ∷ []
-  newcomer_next = ap first_port (left ∙ next_new a i n inside)
-
-  pub rests_new : (words : List ℕ) → OpensAll (plan_of a) words → i < a.ports → (s : Stand) (core : CoreState) (z : Layout) → s.seat.table_id.words ≡ length words → s.seat.me ≡ (first_port v, []) →
-      IsShapeOf s.shape a → s.number ≡ i → s.epoch ≡ 0 → s.arena ≡ 0 → s.base ≡ base (plan_of a) 0 → s.passed ≡ 0 → (n : ℕ) → n ≤ most_ahead → core ≡ record (fresh z i) { ahead = n } → a.sizes ≡ z → IsResting s core false
-  rests_new words w low s core z count me shape number epoch arena base_is passed n few machine sizes =
-      newcomer_rests a words w i low s core count (me ∙ ap (λ (u : List SeatedPort). (u, [])) newcomer_next) shape number epoch arena base_is passed n few (machine ∙ ap (λ (y : Layout). record (fresh y i) { ahead = n }) (sym sizes))
-
-  pub deals_next : {S : Type 0} (me : Me S (List SeatedPort)) (at : List (ℕ × S)) → me ≡ (further_ports v, at) → at ≡ [] → (me.0 ≡ newcomers a (i + 1) (n - (i + 1))) × (me.1 ≡ [])
-  deals_next {S} me at is none = (ap (λ (m : Me S (List SeatedPort)). m.0) is ∙ ap further_ports (left ∙ next_new a i n inside), ap (λ (m : Me S (List SeatedPort)). m.1) is ∙ none)
-
-  pub made_next : {S : Type 0} (t : TableId) (all old new : List PortView) (p : PortView) (u : List SeatedPort) (me : Me S (List SeatedPort)) (at : List (ℕ × S)) →
-      all ≡ old ++ new_ports t v → new ≡ old ++ p ∷ [] → u ≡ first_port v → p ≡ port_view t 1 (one_of u) → me ≡ (further_ports v, at) → all ≡ new ++ new_ports t me.0
-  made_next {S} t all old new p u me at made is here port less =
-      let one : p ≡ port_view t 1 (newcomer a i) = port ∙ ap (λ (w : List SeatedPort). port_view t 1 (one_of w)) (here ∙ newcomer_next) in
-      let rest : new_ports t me.0 ≡ new_ports t (newcomers a (i + 1) (n - (i + 1))) =
-      ap (λ (m : Me S (List SeatedPort)). new_ports t m.0) less ∙ ap (λ (w : List SeatedPort). new_ports t (further_ports w)) (left ∙ next_new a i n inside) in
-      let this : new_ports t v ≡ p ∷ new_ports t me.0 =
-      ap (new_ports t) (left ∙ next_new a i n inside) ∙ ap (λ (q : PortView). q ∷ new_ports t (newcomers a (i + 1) (n - (i + 1)))) (sym one) ∙ ap (λ l. p ∷ l) (sym rest) in
-      made ∙ ap (λ l. old ++ l) this ∙ sym (append_assoc old (p ∷ []) (new_ports t me.0)) ∙ ap (λ l. l ++ new_ports t me.0) (sym is)
+pub rests_new : (a : About) (i : ℕ) (v : List SeatedPort) → first_port v ≡ newcomer a i ∷ [] → (words : List ℕ) → OpensAll (plan_of a) words → i < a.ports → (s : Stand) (core : CoreState) (z : Layout) →
+    s.seat.table_id.words ≡ length words → s.seat.me ≡ (first_port v, []) →
+    IsShapeOf s.shape a → s.number ≡ i → s.epoch ≡ 0 → s.arena ≡ 0 → s.base ≡ base (plan_of a) 0 → s.passed ≡ 0 → (n : ℕ) → n ≤ most_ahead → core ≡ record (fresh z i) { ahead = n } → a.sizes ≡ z → IsResting s core false
+rests_new a i v first words w low s core z count me shape number epoch arena base_is passed n few machine sizes =
+    newcomer_rests a words w i low s core count (me ∙ ap (λ (u : List SeatedPort). (u, [])) first) shape number epoch arena base_is passed n few (machine ∙ ap (λ (y : Layout). record (fresh y i) { ahead = n }) (sym sizes))

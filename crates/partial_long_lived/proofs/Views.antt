@@ -1,32 +1,7 @@
--- The seats of all views: around one view, and how many are of one port.
-use Rattle.partial_long_lived.proofs.Common.{◌≡◌, ◌≢◌, ℕ, zero, suc, ◌+◌, ◌==◌, ◌⊎◌, Bool, true, false, if◌then◌else◌, List, [], ◌∷◌, ◌++◌, slice_set, refl, ap, sym, ◌∙◌, inl, inr, arith, append_assoc, AllByRecursion, eqb_tells, some, some-injective, some-ne-none, get_elem?, SeatedPort, flatten, seats_of}
+-- How many seats are of one port.
+use Rattle.partial_long_lived.proofs.Common.{◌≡◌, ◌≢◌, ℕ, ◌+◌, ◌==◌, ◌⊎◌, Bool, true, false, if◌then◌else◌, List, [], ◌∷◌, ◌++◌, refl, ap, inl, inr, arith, AllByRecursion, eqb_tells, SeatedPort, seats_of}
 
--- the seats before and after those of one view, whatever that view becomes
-pub record Around (views : List (List SeatedPort)) (id : ℕ) (v : List SeatedPort) : Type 0 where
-  pub before : List SeatedPort
-  pub behind : List SeatedPort
-  pub now : flatten views ≡ before ++ (v ++ behind)
-  pub renewed : (w : List SeatedPort) → flatten (slice_set views id w) ≡ before ++ (w ++ behind)
-
-pub around : (views : List (List SeatedPort)) (id : ℕ) (v : List SeatedPort) → get_elem? views id ≡ some v → Around views id v
-around [] id v e = absurd (some-ne-none v (sym e))
-around (u ∷ us) zero v e = record {
-  before = [];
-  behind = flatten us;
-  now = ap (λ w. w ++ flatten us) (some-injective u v e);
-  renewed = λ w. refl;
-}
-around (u ∷ us) (suc id) v e = let r = around us id v e in record {
-  before = u ++ r.before;
-  behind = r.behind;
-  now = ap (λ l. u ++ l) r.now ∙ sym (append_assoc u r.before (v ++ r.behind));
-  renewed = λ w. ap (λ l. u ++ l) (r.renewed w) ∙ sym (append_assoc u r.before (w ++ r.behind));
-}
-
-pub flatten-snoc : (views : List (List SeatedPort)) (v : List SeatedPort) → flatten (views ++ v ∷ []) ≡ flatten views ++ (v ++ [])
-flatten-snoc [] v = refl
-flatten-snoc (u ∷ us) v = ap (λ l. u ++ l) (flatten-snoc us v) ∙ sym (append_assoc u (flatten us) (v ++ []))
-
+-- how many seats of a port two lists have
 pub seats_both : (k : ℕ) (xs ys : List SeatedPort) → seats_of k (xs ++ ys) ≡ seats_of k xs + seats_of k ys
 seats_both k [] ys = omega arith
 seats_both k (x ∷ xs) ys = let rest = seats_both k xs ys in omega (arith, rest)

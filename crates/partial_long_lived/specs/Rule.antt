@@ -1,6 +1,7 @@
 -- The rule of the table: its words and what the ports know are those of a lawful memory over all epochs.
-use Rattle.std.specs.Prelude.{⊤, ℕ, zero, suc, ◌≡◌, ◌+◌, ◌<◌, ◌≤◌, ◌==◌, Bool, true, false, List, [], ◌∷◌, ◌++◌, length, Option, None, IfSome, if◌then◌else◌}
+use Rattle.std.specs.Prelude.{⊤, ℕ, ◌≡◌, ◌+◌, ◌<◌, ◌≤◌, ◌==◌, Bool, true, false, List, [], ◌∷◌, ◌++◌, length, Option, None, IfSome, if◌then◌else◌}
 use Rattle.std.specs.List.{AllByRecursion}
+use Rattle.partial_table.specs.Seats.{flatten, numbered}
 use Rattle.partial_table.specs.Table.{State}
 use Rattle.partial_model.specs.declared.history.Applied.{Applied}
 use Rattle.partial_model.specs.History.{value_of}
@@ -59,11 +60,6 @@ pub record SeatedPort : Type 0 where
 -- the sizes and the opening of a memory, as the law of epochs has them
 abbrev pub plan_of : About → Plan
 plan_of a = record { sizes = a.sizes; ports = a.ports; arenas = a.arenas; opening = a.opening; limit = a.limit }
-
--- the ports of all views
-abbrev pub flatten : List (List SeatedPort) → List SeatedPort
-flatten [] = []
-flatten (v ∷ vs) = v ++ flatten vs
 
 -- how many of these seats are of that port
 abbrev pub seats_of : ℕ → List SeatedPort → ℕ
@@ -161,8 +157,7 @@ newcomer about k = record {
 
 -- n such seats from that number on
 abbrev pub newcomers : About → ℕ → ℕ → List SeatedPort
-newcomers about k zero = []
-newcomers about k (suc n) = newcomer about k ∷ newcomers about (k + 1) n
+newcomers about k n = numbered (newcomer about) k n
 
 -- what is taken for a seat when a view has none
 abbrev pub nobody : SeatedPort
@@ -178,13 +173,3 @@ nobody = newcomer (record {
 abbrev pub one_of : List SeatedPort → SeatedPort
 one_of [] = nobody
 one_of (x ∷ xs) = x
-
--- the first port of a view, as a view of its own
-abbrev pub first_port : List SeatedPort → List SeatedPort
-first_port [] = []
-first_port (x ∷ xs) = x ∷ []
-
--- the ports of a view but the first
-abbrev pub further_ports : List SeatedPort → List SeatedPort
-further_ports [] = []
-further_ports (x ∷ xs) = xs

@@ -56,7 +56,7 @@ pub type PortSeat = Seat<View>;
 pub struct Deals;
 
 impl Split<View> for Deals {
-    ghost use Rattle.partial_long_lived.specs.Rule.{first_port, further_ports};
+    ghost use Rattle.partial_table.specs.Seats.{first_port, further_ports};
 
     ghost left = { further_ports };
 

@@ -1,5 +1,5 @@
 -- The steps of a call, one after the other.
-use Rattle.partial_memory.proofs.Common.{ℕ, ◌≡◌, ◌+◌, ◌<◌, ◌++◌, ◌⊎◌, ◌||◌, false, if◌then◌else◌, Some, None, List, [], ◌∷◌, length, sym, ap, subst, ◌∙◌, inl, inr, arith, length_push, Step, Layout, IsLayout, total, word_of, CoreState, advance, step_of, reply_of, is_begun, refuses_pool, refuses_slots, due_is_unreplied, due_words_are_there, Part, KeptAnswer, HasBegun, IsMachineOf, Tells, first_steps_make_calls, further_steps_make_calls, About, SeatedPort, AreByOpened, Told, Begins, CallMade}
+use Rattle.partial_memory.proofs.Common.{ℕ, ◌≡◌, ◌+◌, ◌<◌, ◌++◌, ◌⊎◌, ◌||◌, Bool, true, false, if◌then◌else◌, Some, None, List, [], ◌∷◌, length, sym, ap, subst, ◌∙◌, inl, inr, arith, length_push, Step, Layout, IsLayout, total, word_of, CoreState, advance, step_of, reply_of, is_begun, refuses_pool, refuses_slots, due_is_unreplied, due_words_are_there, Part, KeptAnswer, HasBegun, IsMachineOf, Tells, first_steps_make_calls, further_steps_make_calls, About, SeatedPort, AreByOpened, Told, Begins, CallMade, CountsOn, HasCounted}
 
 -- the machine that a step leads to, and its port
 module _ (x : SeatedPort) (c : CoreState) (y : SeatedPort) (a : ℕ) (z : SeatedPort) (about : y.about ≡ x.about) (t : Told c y a z) where
@@ -16,12 +16,9 @@ module _ (x : SeatedPort) (c : CoreState) (y : SeatedPort) (a : ℕ) (z : Seated
 first_made : (b : CoreState) (x : SeatedPort) (a : ℕ) (z : SeatedPort) → Begins b x → Told b x a z → CallMade b x (advance b a) z
 first_made b x a z w t =
     let m = first_steps_make_calls x.about.sizes x.about.opening t.log t.entries b x.part a z.part w.begun w.sound t.tells in
-    let kept : z.part.kept ≡ record { answer = a; at = length (t.log ++ t.entries) } ∷ [] =
-    ap (λ (v : Part). v.kept) t.tells.part ∙ ap (λ f. (if f then [] else x.part.kept) ++ record { answer = a; at = length (t.log ++ t.entries) } ∷ []) w.begun.begun in
     record {
       about = t.about;
       made = m;
-      steps = t.steps ∙ ap (λ (ks : List KeptAnswer). x.steps + length ks) (sym kept);
       others = t.others;
       pool = t.tells.behind.pool;
       slots = t.tells.behind.slots;
@@ -31,20 +28,27 @@ first_made b x a z w t =
 next_made : (b : CoreState) (x : SeatedPort) (c : CoreState) (y : SeatedPort) (a : ℕ) (z : SeatedPort) → CallMade b x c y → reply_of c ≡ None → Told c y a z →
     CallMade b x (advance c a) z
 next_made b x c y a z m none t =
-    let going : is_begun c.stage ≡ false = m.made.machine.going in
-    let last : KeptAnswer = record { answer = a; at = length (t.log ++ t.entries) } in
-    let kept : z.part.kept ≡ y.part.kept ++ last ∷ [] = ap (λ (v : Part). v.kept) t.tells.part ∙ ap (λ f. (if f then [] else y.part.kept) ++ last ∷ []) going in
-    let count : length z.part.kept ≡ length y.part.kept + 1 = ap length kept ∙ length_push y.part.kept last in
-    let steps = t.steps in
-    let before = m.steps in
     record {
       about = t.about ∙ m.about;
       made = further_steps_make_calls x.about.sizes x.about.opening t.log t.entries b x.part c y.part a z.part m.made (tells_here x c y a z m.about t);
-      steps = omega (arith, steps, before, count);
       others = others_here x c y a z m.about t;
       pool = t.tells.behind.pool ∙ ap (λ p. refuses_pool (reply_of (advance c a)) || p) (m.pool ∙ ap (λ r. refuses_pool r || b.pool_spent) none);
       slots = t.tells.behind.slots ∙ ap (λ p. refuses_slots (reply_of (advance c a)) || p) (m.slots ∙ ap (λ r. refuses_slots r || b.slots_spent) none);
     }
+
+-- the answer of a step is kept, after those of the call before it
+kept_then : (c : CoreState) (y : SeatedPort) (a : ℕ) (z : SeatedPort) (began : Bool) → is_begun c.stage ≡ began → (t : Told c y a z) →
+    z.part.kept ≡ (if began then [] else y.part.kept) ++ record { answer = a; at = length (t.log ++ t.entries) } ∷ []
+kept_then c y a z began is t = ap (λ (v : Part). v.kept) t.tells.part ∙ ap (λ f. (if f then [] else y.part.kept) ++ record { answer = a; at = length (t.log ++ t.entries) } ∷ []) is
+
+-- and a seat that has made one step more has counted it
+pub first_counted : (b : CoreState) (x : SeatedPort) (a : ℕ) (z : SeatedPort) → Begins b x → Told b x a z → (n m : ℕ) → m ≡ n + 1 → HasCounted n z m
+first_counted b x a z w t n m more = more ∙ ap (λ (ks : List KeptAnswer). n + length ks) (sym (kept_then b x a z true w.begun.begun t))
+
+pub next_counted : (c : CoreState) (y : SeatedPort) (a : ℕ) (z : SeatedPort) → is_begun c.stage ≡ false → Told c y a z → (n m : ℕ) → m ≡ n + 1 → CountsOn n y m z
+next_counted c y a z going t n m more k before =
+    let count : length z.part.kept ≡ length y.part.kept + 1 = ap length (kept_then c y a z false going t) ∙ length_push y.part.kept _ in
+    omega (arith, more, before, count)
 
 -- A call in the middle: it is begun and has made no step, or it has made some.
 abbrev pub Runs : CoreState → SeatedPort → CoreState → SeatedPort → Type 0

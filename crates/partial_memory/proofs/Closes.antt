@@ -1,9 +1,9 @@
 -- A memory that is closed: the ports that were handed in, and the last state.
-use Rattle.partial_memory.proofs.{Common.{ℕ, ◌≡◌, ◌++◌, List, [], ◌∷◌, length, map, refl, sym, ap, subst, ◌∙◌, append_assoc, append-nil, AllByRecursion, nil_from_length, some, get_elem?, State, Me, TableId, Applied, all_append, all_back, all_front, total, RecordsAreWithin, lawful_ports_fit, lawful_records_are_within, About, SeatedPort, AreByOpened, AreSeatedOf, IsIn, IsRuleKept, IsLawfulWith, IsShuffle, parts_of, IsOf, MemoryView, PortView, port_view, AreChains, AreValues, Closes, IsPortOf, Closed, ClosesLawfully}, Looks.{see_all, to_front}, Shuffles.put_elsewhere, Steps.entries_opened, Views.around}
+use Rattle.partial_memory.proofs.{Common.{around, ℕ, ◌≡◌, ◌++◌, List, [], ◌∷◌, length, map, refl, sym, ap, subst, ◌∙◌, append_assoc, append-nil, AllByRecursion, nil_from_length, some, get_elem?, State, Me, TableId, Applied, all_append, all_back, all_front, total, RecordsAreWithin, lawful_ports_fit, lawful_records_are_within, About, SeatedPort, AreByOpened, AreSeatedOf, IsIn, IsRuleKept, IsLawfulWith, IsShuffle, parts_of, MemoryView, PortView, port_view, without_steps, AreChains, AreValues, Closes, IsPortOf, Closed, ClosesLawfully}, Looks.{see_all, to_front}, Shuffles.put_elsewhere, Steps.entries_opened}
 
 -- what a history says of a port is what the port knows of it
-port_in : (t : TableId) (log : List Applied) (x : SeatedPort) → IsIn log x → IsPortOf log (port_view t x)
-port_in t log x w = record { seen = w.seen; legal = w.fits.legal; once = w.fits.once }
+port_in : (t : TableId) (n : ℕ) (log : List Applied) (x : SeatedPort) → IsIn log x → IsPortOf log (port_view t n x)
+port_in t n log x w = record { seen = w.seen; legal = w.fits.legal; once = w.fits.once }
 
 -- The ports taken in so far, of all that were handed in, are those of the seat, of which callers saw the first one and then these.
 pub record Taken (t : TableId) (port : PortView) (all rest : List PortView) (v : List SeatedPort) : Type 0 where
@@ -12,28 +12,28 @@ pub record Taken (t : TableId) (port : PortView) (all rest : List PortView) (v :
   pub each : (log : List Applied) → AllByRecursion (IsIn log) v → IsPortOf log port × AllByRecursion (IsPortOf log) taken
   pub first : SeatedPort
   pub others : List SeatedPort
-  pub shown : port_view t first ≡ port
-  pub others_shown : map (port_view t) others ≡ taken
+  pub shown : port_view t 0 first ≡ without_steps port
+  pub others_shown : map (port_view t 0) others ≡ map without_steps taken
   pub order : (a all : List SeatedPort) → IsShuffle (v ++ a) all → IsShuffle (first ∷ (others ++ a)) all
 
-pub taken_none : {S : Type 0} (me : Me S (List SeatedPort)) (t : TableId) (x : SeatedPort) (port : PortView) (all : List PortView) → me ≡ (x ∷ [], []) → port_view t x ≡ port →
+pub taken_none : {S : Type 0} (me : Me S (List SeatedPort)) (t : TableId) (n : ℕ) (x : SeatedPort) (port : PortView) (all : List PortView) → me ≡ (x ∷ [], []) → port_view t n x ≡ port →
     Taken t port all all me.0
-taken_none {S} me t x port all is seen =
+taken_none {S} me t n x port all is seen =
     let one = ap (λ (m : Me S (List SeatedPort)). m.0) is in
     record {
       taken = [];
       is = sym (append-nil all);
-      each = λ log w. (subst (IsPortOf log) seen (port_in t log x (subst (AllByRecursion (IsIn log)) one w).0), tt);
+      each = λ log w. (subst (IsPortOf log) seen (port_in t n log x (subst (AllByRecursion (IsIn log)) one w).0), tt);
       first = x;
       others = [];
-      shown = seen;
+      shown = ap without_steps seen;
       others_shown = refl;
       order = λ a ys s. subst (λ (v : List SeatedPort). IsShuffle (v ++ a) ys) one s;
     }
 
-pub taken_more : {S : Type 0} (me : Me S (List SeatedPort)) (t : TableId) (x : SeatedPort) (port p : PortView) (all rest less : List PortView) (v w : List SeatedPort) → Taken t port all rest v →
-    rest ≡ less ++ p ∷ [] → me ≡ (x ∷ [], []) → port_view t x ≡ p → w ≡ v ++ me.0 → Taken t port all less w
-taken_more {S} me t x port p all rest less v w had pop is seen join =
+pub taken_more : {S : Type 0} (me : Me S (List SeatedPort)) (t : TableId) (n : ℕ) (x : SeatedPort) (port p : PortView) (all rest less : List PortView) (v w : List SeatedPort) → Taken t port all rest v →
+    rest ≡ less ++ p ∷ [] → me ≡ (x ∷ [], []) → port_view t n x ≡ p → w ≡ v ++ me.0 → Taken t port all less w
+taken_more {S} me t n x port p all rest less v w had pop is seen join =
     let one : me.0 ≡ x ∷ [] = ap (λ (m : Me S (List SeatedPort)). m.0) is in
     record {
       taken = p ∷ had.taken;
@@ -42,29 +42,23 @@ taken_more {S} me t x port p all rest less v w had pop is seen join =
           let both : AllByRecursion (IsIn log) (v ++ me.0) = subst (AllByRecursion (IsIn log)) join looked in
           let back = subst (AllByRecursion (IsIn log)) one (all_back (IsIn log) v me.0 both) in
           let g = had.each log (all_front (IsIn log) v me.0 both) in
-          (g.0, (subst (IsPortOf log) seen (port_in t log x back.0), g.1));
+          (g.0, (subst (IsPortOf log) seen (port_in t n log x back.0), g.1));
       first = had.first;
       others = x ∷ had.others;
       shown = had.shown;
-      others_shown = ap (λ (q : PortView). q ∷ map (port_view t) had.others) seen ∙ ap (λ (l : List PortView). p ∷ l) had.others_shown;
+      others_shown = ap (λ (q : PortView). without_steps q ∷ map (port_view t 0) had.others) seen ∙ ap (λ (l : List PortView). without_steps p ∷ l) had.others_shown;
       order = λ a ys s.
           let here : IsShuffle (v ++ (x ∷ a)) ys = subst (λ l. IsShuffle l ys) (ap (λ (l : List SeatedPort). l ++ a) (join ∙ ap (λ (l : List SeatedPort). v ++ l) one) ∙ append_assoc v (x ∷ []) a) s in
           put_elsewhere (had.first ∷ had.others) x a (had.first ∷ []) (had.others ++ a) ys refl (had.order (x ∷ a) ys here);
     }
 
 -- the ports of a seat belong to one memory
-pub own_one : {S : Type 0} (me : Me S (List SeatedPort)) (t : TableId) (x : SeatedPort) (p : PortView) (about : About) → me ≡ (x ∷ [], []) → port_view t x ≡ p → p.memory.about ≡ about →
+pub own_one : {S : Type 0} (me : Me S (List SeatedPort)) (t : TableId) (n : ℕ) (x : SeatedPort) (p : PortView) (about : About) → me ≡ (x ∷ [], []) → port_view t n x ≡ p → p.memory.about ≡ about →
     AreSeatedOf about me.0
-own_one {S} me t x p about is seen own = subst (λ (m : Me S (List SeatedPort)). AreSeatedOf about m.0) (sym is) (ap (λ (q : PortView). q.memory.about) seen ∙ own, tt)
+own_one {S} me t n x p about is seen own = subst (λ (m : Me S (List SeatedPort)). AreSeatedOf about m.0) (sym is) (ap (λ (q : PortView). q.memory.about) seen ∙ own, tt)
 
 pub own_more : (v w both : List SeatedPort) (about : About) → AreSeatedOf about v → AreSeatedOf about w → both ≡ v ++ w → AreSeatedOf about both
 own_more v w both about a b is = subst (AreSeatedOf about) (sym is) (all_append (λ (x : SeatedPort). x.about ≡ about) v w a b)
-
-pub of_last : (m : MemoryView) (rest less : List PortView) (p : PortView) → AllByRecursion (IsOf m) rest → rest ≡ less ++ p ∷ [] → AllByRecursion (IsOf m) less × IsOf m p
-of_last m rest less p w is =
-    let v : AllByRecursion (IsOf m) (less ++ p ∷ []) = subst (AllByRecursion (IsOf m)) is w in
-    let last = all_back (IsOf m) less (p ∷ []) v in
-    (all_front (IsOf m) less (p ∷ []) v, last.0)
 
 -- the last state: its words have the records of one history, which all ports of the seat have seen
 pub record Ends (about : About) (words : List ℕ) (v : List SeatedPort) : Type 0 where
@@ -121,7 +115,7 @@ closes m port all rest v words closed n e had empty count shown =
         here = had.first ∷ had.others;
         others = e.lawful.others;
         all = e.lawful.all;
-        shown = ap (λ (p : PortView). p ∷ map (port_view m.table) had.others) had.shown ∙ ap (λ (l : List PortView). port ∷ l) (had.others_shown ∙ sym taken);
+        shown = ap (λ (p : PortView). p ∷ map (port_view m.table 0) had.others) had.shown ∙ ap (λ (l : List PortView). without_steps port ∷ l) (had.others_shown ∙ ap (map without_steps) (sym taken));
         shuffle = had.order e.lawful.others e.lawful.all e.lawful.shuffle;
         opened = e.lawful.opened;
         lawful = e.lawful.lawful;

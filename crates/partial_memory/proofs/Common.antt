@@ -4,7 +4,8 @@ pub use Rattle.std.specs.{List.{AllByRecursion, range_with_len, list_any}, Prelu
 pub use Rattle.std.proofs.lemmas.{Bool.{cases_lt, eqb-true, false≢true, ltb-false, ltb-true, ne_eqb, or_cases, lt-ltb}, List.{length_push, get_or_append_left, get_or_push, length-map, nil_from_length, get_or_past, take_all}, Result.err_from_is_err_and}
 pub use lib.{ListN.get_elem?, Seq.set-get_or}
 pub use mathlib.Core.Option.{some, some-injective, some-ne-none}
-pub use Rattle.atomic_table.specs.{Seated.TableId, Table.{State, Me, keeps, Allows, Joins, opening, Splits}}
+pub use Rattle.partial_table.specs.{Seats.{first_port, flatten, further_ports}, Table.{TableId, State, Me, keeps, Allows, Joins, opening, Splits}}
+pub use Rattle.partial_table.proofs.Seats.{around, dealt_first, dealt_none, first_dealt, made_next, of_last, others_left}
 pub use Rattle.partial_model.specs.declared.call.{Call.Call, Note.Note, Refused.Refused}
 pub use Rattle.partial_model.specs.declared.history.{Applied.Applied, Opening.Opening}
 pub use Rattle.partial_model.specs.Notes.{LegalNotes, Noted}
@@ -21,5 +22,5 @@ pub use Rattle.partial_core.proofs.Laws.{first_steps_make_calls, further_steps_m
 pub use Rattle.partial_lines.specs.Replies.{scan_reply, RestsLike}
 pub use Rattle.partial_memory.specs.declared.closed.Closed.{Closed}
 pub use Rattle.partial_memory.specs.declared.rule.About.{About}
-pub use Rattle.partial_memory.specs.{Calls.{Meets, Updates, UpdatesIf, met_port, Reads, Scans}, Closing.{Closes, IsPortOf, IsWholeChain, AreValues, AreChains, AreChainsFrom}, Lawfulness.{ClosesLawfully, MeetsLawfully}, Led.{BeganAs, HasMark, IsLed, IsLedToAnswer, IsLedToRefusal, IsLedWhereLate, LateRefusalsArePastEnd, LedCallsClaimOnce, RefusalsAtOnceFit, ScanIsLed, ScansLed}, Ports.{IsOf, MemoryView, PortView, new_ports, port_view, IsResting, Knows, Answered, Goes, IsRefused, refusal, CountsSteps, IsPastEnd, RefusedLate, is_pool, is_slots}, Reopening.{extended_values, ClosedMemoriesContinue, with_zeros}, Rule.{IsShuffle, newcomers, SeatedPort, AreByOpened, Told, AreSeatedOf, IsIn, IsRuleKept, IsLawfulWith, parts_of, AreOpened, flatten, having_met, looks, first_port, one_in, further_ports, newcomer, IsBadgeOfOne, IsOne, makes, one_of}}
-pub use Rattle.partial_memory.specs.Inner.{Endings.{ending_reply, asked_change}, Lines.{IsGoing, IsUnderWay, ComesTo, machine_of}, Steps.{Begins, CallMade, CallEnded}}
+pub use Rattle.partial_memory.specs.{Calls.{Meets, Updates, UpdatesIf, met_port, meeting_steps, Reads, Scans}, Closing.{Closes, IsPortOf, IsWholeChain, AreValues, AreChains, AreChainsFrom}, Lawfulness.{ClosesLawfully, MeetsLawfully}, Led.{BeganAs, HasMark, IsLed, IsLedToAnswer, IsLedToRefusal, IsLedWhereLate, LateRefusalsArePastEnd, LedCallsClaimOnce, RefusalsAtOnceFit, ScanIsLed, ScansLed}, Ports.{IsOf, MemoryView, PortView, new_ports, port_view, without_steps, IsResting, Knows, Answered, Goes, IsRefused, refusal, CountsSteps, IsPastEnd, RefusedLate, is_pool, is_slots}, Reopening.{extended_values, ClosedMemoriesContinue, with_zeros}, Rule.{IsShuffle, newcomers, SeatedPort, AreByOpened, Told, AreSeatedOf, IsIn, IsRuleKept, IsLawfulWith, parts_of, AreOpened, having_met, looks, one_in, newcomer, IsBadgeOfOne, IsOne, makes, one_of}}
+pub use Rattle.partial_memory.specs.Inner.{Endings.{ending_reply, asked_change}, Lines.{IsGoing, IsUnderWay, ComesTo, CountsOn, machine_of}, Steps.{Begins, CallMade, CallEnded, HasCounted}}

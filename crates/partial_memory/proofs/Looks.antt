@@ -1,5 +1,5 @@
 -- A look at the whole history in a meeting, and the ports of two seats that come together.
-use Rattle.partial_memory.proofs.{Common.{ℕ, zero, suc, ◌≡◌, ◌<◌, ◌++◌, List, [], ◌∷◌, map, slice_set, refl, sym, ap, subst, ◌∙◌, append_assoc, AllByRecursion, some, some-injective, some-ne-none, get_elem?, Me, keeps, Allows, Joins, Applied, all_at, all_join, all_before, all_after, port_of, with_seen, Lawful, FitsHistory, lawful_ports_fit, looks_stay_lawful, About, SeatedPort, AreByOpened, AreSeatedOf, AreOpened, IsIn, IsRuleKept, IsShuffle, parts_of, flatten, having_met, looks, set-get_or}, Shuffles.{find, put_elsewhere}, Views.{around, reordered}, Steps.{among, parts_split, entries_opened}}
+use Rattle.partial_memory.proofs.{Common.{around, ℕ, zero, suc, ◌≡◌, ◌<◌, ◌++◌, List, [], ◌∷◌, map, slice_set, refl, sym, ap, subst, ◌∙◌, append_assoc, AllByRecursion, some, some-injective, some-ne-none, get_elem?, Me, keeps, Allows, Joins, Applied, all_at, all_join, all_before, all_after, port_of, with_seen, Lawful, FitsHistory, lawful_ports_fit, looks_stay_lawful, About, SeatedPort, AreByOpened, AreSeatedOf, AreOpened, IsIn, IsRuleKept, IsShuffle, parts_of, flatten, having_met, looks, set-get_or}, Shuffles.{find, put_elsewhere}, Views.reordered, Steps.{among, parts_split, entries_opened}}
 use Rattle.partial_core.specs.Lawful.{LawfulAmong}
 
 -- the state with the ports of a view that have seen all

@@ -1,9 +1,9 @@
 -- Two ports that meet.
-use Rattle.partial_memory.proofs.Common.{ℕ, ◌≡◌, ◌++◌, List, [], ◌∷◌, map, refl, sym, ap, subst, ◌∙◌, AllByRecursion, Me, TableId, Applied, CoreState, About, SeatedPort, AreSeatedOf, IsIn, IsLawfulWith, first_port, having_met, looks, one_in, further_ports, IsResting, Knows, MemoryView, PortView, port_view, Meets, MeetsLawfully}
+use Rattle.partial_memory.proofs.Common.{ℕ, ◌≡◌, ◌+◌, ◌++◌, length, take, met_port, meeting_steps, List, [], ◌∷◌, map, refl, sym, ap, subst, ◌∙◌, AllByRecursion, Me, TableId, Applied, CoreState, About, SeatedPort, AreSeatedOf, IsIn, IsLawfulWith, first_port, having_met, looks, one_in, further_ports, IsResting, Knows, MemoryView, PortView, port_view, Meets, MeetsLawfully}
 
 -- what a port knows of the history that it has seen in a meeting
-knows_met : (t : TableId) (log : List Applied) (x : SeatedPort) → IsIn log x → Knows (port_view t (having_met log x))
-knows_met t log x w = record { history = w.fits.history; legal = w.fits.legal; once = w.fits.once; others = w.others }
+knows_met : (t : TableId) (n : ℕ) (log : List Applied) (x : SeatedPort) → IsIn log x → Knows (port_view t n (having_met log x))
+knows_met t n log x w = record { history = w.fits.history; legal = w.fits.legal; once = w.fits.once; others = w.others }
 
 -- it is between calls yet
 pub rests_met : (views after : List (List SeatedPort)) (core : CoreState) (number : ℕ) (log : List Applied) → IsResting views core number → IsIn log (one_in views) →
@@ -46,39 +46,42 @@ looked x y me me' n is w =
 pub both_of : (about : About) (x y : SeatedPort) (v : List SeatedPort) → v ≡ x ∷ y ∷ [] → x.about ≡ about → y.about ≡ about → AreSeatedOf about v
 both_of about x y v is own own' = subst (AreSeatedOf about) (sym is) (own, (own', tt))
 
-pub meets : (t t' u u' : TableId) (x y : SeatedPort) (v : List SeatedPort) (views views' : List (List SeatedPort)) (p q : PortView) → Looked x y v → port_view t x ≡ p → port_view t' y ≡ q → u ≡ t →
-    u' ≡ t' →
-    views ≡ first_port v ∷ [] → views' ≡ further_ports v ∷ [] →
-    Meets p q (port_view u (one_in views)) (port_view u' (one_in views'))
-meets t t' u u' x y v views views' p q w seen seen' same same' is is' =
-    let one : one_in views ≡ having_met w.log x = ap one_in (is ∙ ap (λ (l : List SeatedPort). first_port l ∷ []) w.is) in
-    let two : one_in views' ≡ having_met w.log y = ap one_in (is' ∙ ap (λ (l : List SeatedPort). further_ports l ∷ []) w.is) in
-    let met : Meets (port_view t x) (port_view t' y) (port_view t (having_met w.log x)) (port_view t' (having_met w.log y)) = record {
-      log = w.log;
-      first = refl;
-      second = refl;
-      first_seen = w.first.seen;
-      second_seen = w.second.seen;
-      first_knows = knows_met t w.log x w.first;
-      second_knows = knows_met t' w.log y w.second;
-    } in
-    let first : port_view t (having_met w.log x) ≡ port_view u (one_in views) = ap (λ (i : TableId). port_view i (having_met w.log x)) (sym same) ∙ ap (port_view u) (sym one) in
-    let second : port_view t' (having_met w.log y) ≡ port_view u' (one_in views') = ap (λ (i : TableId). port_view i (having_met w.log y)) (sym same') ∙ ap (port_view u') (sym two) in
-    subst (λ (a : PortView). Meets a q (port_view u (one_in views)) (port_view u' (one_in views'))) seen
-    (subst (λ (b : PortView). Meets (port_view t x) b (port_view u (one_in views)) (port_view u' (one_in views'))) seen'
-    (subst (λ (c : PortView). Meets (port_view t x) (port_view t' y) c (port_view u' (one_in views'))) first
-    (subst (λ (d : PortView). Meets (port_view t x) (port_view t' y) (port_view t (having_met w.log x)) d) second met)))
+-- what the two ports show then, whose seats have made so many steps before and behind
+module _ (t t' u u' : TableId) (n n' k k' : ℕ) (x y : SeatedPort) (v : List SeatedPort) (views views' : List (List SeatedPort)) (p q : PortView) (w : Looked x y v) (seen : port_view t n x ≡ p)
+    (seen' : port_view t' n' y ≡ q) (same : u ≡ t) (same' : u' ≡ t') (is : views ≡ first_port v ∷ []) (is' : views' ≡ further_ports v ∷ []) (all : k ≡ n + n' + meeting_steps) (none : k' ≡ 0) where
+  first_met : port_view u k (one_in views) ≡ met_port w.log (p.steps + q.steps + meeting_steps) p
+  first_met =
+      let one : one_in views ≡ having_met w.log x = ap one_in (is ∙ ap (λ (l : List SeatedPort). first_port l ∷ []) w.is) in
+      let before : n + n' ≡ p.steps + q.steps = ap (λ (a : PortView). a.steps + n') seen ∙ ap (λ (b : PortView). p.steps + b.steps) seen' in
+      ap (port_view u k) one ∙ ap (λ (i : TableId). port_view i k (having_met w.log x)) same ∙ ap (λ m. port_view t m (having_met w.log x)) (all ∙ ap (λ m. m + meeting_steps) before)
+      ∙ ap (met_port w.log (p.steps + q.steps + meeting_steps)) seen
+
+  second_met : port_view u' k' (one_in views') ≡ met_port w.log 0 q
+  second_met =
+      let two : one_in views' ≡ having_met w.log y = ap one_in (is' ∙ ap (λ (l : List SeatedPort). further_ports l ∷ []) w.is) in
+      ap (port_view u' k') two ∙ ap (λ (i : TableId). port_view i k' (having_met w.log y)) same' ∙ ap (λ m. port_view t' m (having_met w.log y)) none ∙ ap (met_port w.log 0) seen'
+
+  pub meets : Meets p q (port_view u k (one_in views)) (port_view u' k' (one_in views'))
+  meets = record {
+    log = w.log;
+    first = first_met;
+    second = second_met;
+    first_seen = subst (λ (a : PortView). a.seen ≡ take (length a.seen) w.log) seen w.first.seen;
+    second_seen = subst (λ (b : PortView). b.seen ≡ take (length b.seen) w.log) seen' w.second.seen;
+    first_knows = subst Knows (sym first_met) (subst (λ (a : PortView). Knows (met_port w.log (p.steps + q.steps + meeting_steps) a)) seen (knows_met t _ w.log x w.first));
+    second_knows = subst Knows (sym second_met) (subst (λ (b : PortView). Knows (met_port w.log 0 b)) seen' (knows_met t' _ w.log y w.second));
+  }
 
 -- the meeting was in a lawful state, whose history is the one that both have seen
-pub meets_lawfully : (u u' : TableId) (x y : SeatedPort) (v : List SeatedPort) (views views' : List (List SeatedPort)) (m : MemoryView) → Looked x y v → u ≡ m.table → u' ≡ m.table →
+pub meets_lawfully : (u u' : TableId) (k k' : ℕ) (x y : SeatedPort) (v : List SeatedPort) (views views' : List (List SeatedPort)) (m : MemoryView) → Looked x y v → u ≡ m.table → u' ≡ m.table →
     x.about ≡ m.about →
-    views ≡ first_port v ∷ [] → views' ≡ further_ports v ∷ [] → MeetsLawfully m (port_view u (one_in views)) (port_view u' (one_in views'))
-meets_lawfully u u' x y v views views' m w same same' own is is' =
+    views ≡ first_port v ∷ [] → views' ≡ further_ports v ∷ [] → MeetsLawfully m (port_view u k (one_in views)) (port_view u' k' (one_in views'))
+meets_lawfully u u' k k' x y v views views' m w same same' own is is' =
     let one : one_in views ≡ having_met w.log x = ap one_in (is ∙ ap (λ (l : List SeatedPort). first_port l ∷ []) w.is) in
     let two : one_in views' ≡ having_met w.log y = ap one_in (is' ∙ ap (λ (l : List SeatedPort). further_ports l ∷ []) w.is) in
     let lawful : IsLawfulWith m.about w.log (having_met w.log x ∷ having_met w.log y ∷ []) =
     subst (IsLawfulWith m.about w.log) w.is (subst (λ (o : About). IsLawfulWith o w.log v) own w.lawful) in
-    let met : MeetsLawfully m (port_view m.table (having_met w.log x)) (port_view m.table (having_met w.log y)) = (
+    let met : MeetsLawfully m (port_view m.table k (having_met w.log x)) (port_view m.table k' (having_met w.log y)) = (
       refl,
       record {
         words = lawful.words;
@@ -91,9 +94,9 @@ meets_lawfully u u' x y v views views' m w same same' own is is' =
         lawful = lawful.lawful;
       },
     ) in
-    let first : port_view m.table (having_met w.log x) ≡ port_view u (one_in views) = ap (λ (i : TableId). port_view i (having_met w.log x)) (sym same) ∙ ap (port_view u) (sym one) in
-    let second : port_view m.table (having_met w.log y) ≡ port_view u' (one_in views') = ap (λ (i : TableId). port_view i (having_met w.log y)) (sym same') ∙ ap (port_view u') (sym two) in
-    subst (λ (c : PortView). MeetsLawfully m c (port_view u' (one_in views'))) first (subst (λ (d : PortView). MeetsLawfully m (port_view m.table (having_met w.log x)) d) second met)
+    let first : port_view m.table k (having_met w.log x) ≡ port_view u k (one_in views) = ap (λ (i : TableId). port_view i k (having_met w.log x)) (sym same) ∙ ap (port_view u k) (sym one) in
+    let second : port_view m.table k' (having_met w.log y) ≡ port_view u' k' (one_in views') = ap (λ (i : TableId). port_view i k' (having_met w.log y)) (sym same') ∙ ap (port_view u' k') (sym two) in
+    subst (λ (c : PortView). MeetsLawfully m c (port_view u' k' (one_in views'))) first (subst (λ (d : PortView). MeetsLawfully m (port_view m.table k (having_met w.log x)) d) second met)
 
 -- the ports of two seats that came together
 pub joined : {S : Type 0} (x y : SeatedPort) (a b m : Me S (List SeatedPort)) → a ≡ (x ∷ [], []) → b ≡ (y ∷ [], []) → m ≡ (a.0 ++ b.0, a.1) → m.0 ≡ x ∷ y ∷ []

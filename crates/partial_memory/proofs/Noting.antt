@@ -31,8 +31,8 @@ refused_noted : (p q : PortView) (c : Call) (cause : Refused) → IsRefused p c 
 refused_noted p q c cause (inl w) = unchanged p q w.1
 refused_noted p q c cause (inr w) = goes_on p q [] w.goes
 
-met_noted : (log : List Entry) (p q : PortView) → q ≡ met_port log p → NotesMore p q []
-met_noted log p q e = record {
+met_noted : (log : List Entry) (n : ℕ) (p q : PortView) → q ≡ met_port log n p → NotesMore p q []
+met_noted log n p q e = record {
   memory = ap (λ (x : PortView). x.memory) e;
   number = ap (λ (x : PortView). x.number) e;
   notes = ap (λ (x : PortView). x.notes) e ∙ sym (append-nil p.notes);
@@ -46,5 +46,5 @@ calls_note_once = record {
   scan = λ p q j js values s w. answered p q (Call.Scan (j ∷ js)) (Answer.Scanned values s.collects s.borrowed) _ w.1;
   no_scan = λ p q values s w. unchanged p q w.3;
   refused = refused_noted;
-  meet = λ a b c d w. (met_noted w.log a c w.first, met_noted w.log b d w.second);
+  meet = λ a b c d w. (met_noted w.log _ a c w.first, met_noted w.log _ b d w.second);
 }

@@ -1,5 +1,5 @@
 -- What a call that has ended leaves of its port, by its reply.
-use Rattle.partial_memory.proofs.{Common.{ℕ, ◌≡◌, ◌≤◌, ◌<◌, ◌+◌, ◌++◌, ◌||◌, false, if◌then◌else◌, Option, Some, None, List, [], ◌∷◌, length, map, slice_index, refl, sym, ap, subst, ◌∙◌, arith, inr, Result, Err, IfOk, IfErr, ne_eqb, TableId, Call, Refused, Finished, ReadBegun, ScanBegun, CoreState, at_stage, reply_of, scanned_values, answer_for, begin_scan, begun_of, call_of, core_scan_refusal, core_update_refusal, IsRefusedBy, refuses_pool, refuses_slots, KeptAnswer, answers_of, core_of, AreNotesOf, IsNoteOf, IsPlacedAt, IsRefusal, made_calls_make_their_steps, Layout, IsLayout, greatest_record, pool_end, About, scan_reply, SeatedPort, one_in, CallMade, CallEnded, PortView, port_view, refusal, IsResting, Knows, Goes, CountsSteps, Answered, IsPastEnd, RefusedLate, IsRefused, is_pool, is_slots, Updates, UpdatesIf, Reads, Scans, Ok, Note, LegalNotes-last, Noted, LegalNotes, Reply, run_sizes, BeganAs, IsLed, IsLedToAnswer, IsLedToRefusal, IsLedWhereLate, ScanIsLed, ScansLed}, Ahead.{run_ahead, few_claimed}, Resting.{CallBegins, call_begins, read_begins, scan_begins}}
+use Rattle.partial_memory.proofs.{Common.{ℕ, ◌≡◌, ◌≤◌, ◌<◌, ◌+◌, ◌++◌, ◌||◌, false, if◌then◌else◌, Option, Some, None, List, [], ◌∷◌, length, map, slice_index, refl, sym, ap, subst, ◌∙◌, arith, inr, Result, Err, IfOk, IfErr, ne_eqb, TableId, Call, Refused, Finished, ReadBegun, ScanBegun, CoreState, at_stage, reply_of, scanned_values, answer_for, begin_scan, begun_of, call_of, core_scan_refusal, core_update_refusal, IsRefusedBy, refuses_pool, refuses_slots, KeptAnswer, answers_of, core_of, AreNotesOf, IsNoteOf, IsPlacedAt, IsRefusal, made_calls_make_their_steps, Layout, IsLayout, greatest_record, pool_end, About, scan_reply, SeatedPort, one_in, CallMade, CallEnded, HasCounted, PortView, port_view, refusal, IsResting, Knows, Goes, CountsSteps, Answered, IsPastEnd, RefusedLate, IsRefused, is_pool, is_slots, Updates, UpdatesIf, Reads, Scans, Ok, Note, LegalNotes-last, Noted, LegalNotes, Reply, run_sizes, BeganAs, IsLed, IsLedToAnswer, IsLedToRefusal, IsLedWhereLate, ScanIsLed, ScansLed}, Ahead.{run_ahead, few_claimed}, Resting.{CallBegins, call_begins, read_begins, scan_begins}}
 use Rattle.partial_model.specs.declared.call.Answer.{Answer}
 use Rattle.partial_model.specs.Notes.{Fits as NoteFits, MayBeRefused}
 use Rattle.partial_embedded.specs.Embedded.{RowsState}
@@ -36,15 +36,15 @@ last_kept (k ∷ ks) (y ∷ ys) last e =
     let more = last_kept ks ys last rest in
     (k ∷ more.0, more.1, ap (λ l. k ∷ l) more.2, more.3)
 
-module _ (t : TableId) (b : CoreState) (x : SeatedPort) (c : CoreState) (y : SeatedPort) (m : CallMade b x c y) (call : Call) (w : CallBegins t x b call) where
+module _ (t : TableId) (before behind : ℕ) (b : CoreState) (x : SeatedPort) (c : CoreState) (y : SeatedPort) (m : CallMade b x c y) (counted : HasCounted before y behind) (call : Call) (w : CallBegins t x b call) where
   abbrev p : PortView
-  p = port_view t x
+  p = port_view t before x
 
   abbrev q : PortView
-  q = port_view t y
+  q = port_view t behind y
 
   knows_here : Knows q
-  knows_here = subst (λ (o : About). Knows (port_view t (record { about = o; part = y.part; steps = y.steps }))) (sym m.about) (record {
+  knows_here = subst (λ (o : About). Knows (port_view t behind (record { about = o; part = y.part }))) (sym m.about) (record {
     history = m.made.fits.history;
     legal = m.made.fits.legal;
     once = m.made.fits.once;
@@ -65,7 +65,7 @@ module _ (t : TableId) (b : CoreState) (x : SeatedPort) (c : CoreState) (y : Sea
       let z : Layout = x.about.sizes in
       let layout : IsLayout z = subst IsLayout w.begins.sizes w.begins.layout in
       let few = (made_calls_make_their_steps z x.about.opening b x.part c y.part layout m.made).few call w.call in
-      record { first = m.made.first; steps = m.steps; few = omega (arith, few) }
+      record { first = m.made.first; steps = counted; few = omega (arith, few) }
 
   -- the marks of the port before and after the call
   pool_before : b.pool_spent ≡ p.pool_spent
@@ -213,57 +213,57 @@ module _ (p q : PortView) (c : CoreState) where
   read_note j v s (Note.Wrote n) a f = absurd f
   read_note j v s (Note.Lost n) a f = absurd f
 
-module _ (t : TableId) (b : CoreState) (x : SeatedPort) (c : CoreState) (y : SeatedPort) (m : CallMade b x c y) where
+module _ (t : TableId) (before behind : ℕ) (b : CoreState) (x : SeatedPort) (c : CoreState) (y : SeatedPort) (m : CallMade b x c y) (counted : HasCounted before y behind) where
   noted_by : (r : Reply) → reply_of c ≡ Some r → AreNotesOf x.about.opening y.part (Some r) m.made.new
   noted_by r is = subst (λ f. AreNotesOf x.about.opening y.part f m.made.new) is m.made.noted
 
-  pub update_told : (j v : ℕ) → CallBegins t x b (Call.Update j v) → (r : Reply) → reply_of c ≡ Some r → UpdateTold (port_view t x) j v r (port_view t y)
+  pub update_told : (j v : ℕ) → CallBegins t x b (Call.Update j v) → (r : Reply) → reply_of c ≡ Some r → UpdateTold (port_view t before x) j v r (port_view t behind y)
   update_told j v w (Reply.Applied s) is =
-      let a = answered_with t b x c y m (Call.Update j v) w (Reply.Applied s) is refl refl (noted_by (Reply.Applied s) is) in
-      (wrote_note (port_view t x) (port_view t y) c j v s a.note a.answered a.fits a.placed, a.led)
+      let a = answered_with t before behind b x c y m counted (Call.Update j v) w (Reply.Applied s) is refl refl (noted_by (Reply.Applied s) is) in
+      (wrote_note (port_view t before x) (port_view t behind y) c j v s a.note a.answered a.fits a.placed, a.led)
   update_told j v w (Reply.Lost s) is =
-      let a = answered_with t b x c y m (Call.Update j v) w (Reply.Lost s) is refl refl (noted_by (Reply.Lost s) is) in
-      (lost_note (port_view t x) (port_view t y) c j v s a.note a.answered a.fits, a.led)
-  update_told j v w (Reply.Refused cause) is = (refused_with t b x c y m (Call.Update j v) w cause is, refusal_led t b x c y m (Call.Update j v) w cause is)
-  update_told j v w (Reply.Read u s) is = let a = answered_with t b x c y m (Call.Update j v) w (Reply.Read u s) is refl refl (noted_by (Reply.Read u s) is) in absurd a.fits
-  update_told j v w (Reply.Scanned k s) is = let a = answered_with t b x c y m (Call.Update j v) w (Reply.Scanned k s) is refl refl (noted_by (Reply.Scanned k s) is) in absurd a.fits
-  update_told j v w (Reply.Changed s) is = let a = answered_with t b x c y m (Call.Update j v) w (Reply.Changed s) is refl refl (noted_by (Reply.Changed s) is) in absurd a.fits
+      let a = answered_with t before behind b x c y m counted (Call.Update j v) w (Reply.Lost s) is refl refl (noted_by (Reply.Lost s) is) in
+      (lost_note (port_view t before x) (port_view t behind y) c j v s a.note a.answered a.fits, a.led)
+  update_told j v w (Reply.Refused cause) is = (refused_with t before behind b x c y m counted (Call.Update j v) w cause is, refusal_led t before behind b x c y m counted (Call.Update j v) w cause is)
+  update_told j v w (Reply.Read u s) is = let a = answered_with t before behind b x c y m counted (Call.Update j v) w (Reply.Read u s) is refl refl (noted_by (Reply.Read u s) is) in absurd a.fits
+  update_told j v w (Reply.Scanned k s) is = let a = answered_with t before behind b x c y m counted (Call.Update j v) w (Reply.Scanned k s) is refl refl (noted_by (Reply.Scanned k s) is) in absurd a.fits
+  update_told j v w (Reply.Changed s) is = let a = answered_with t before behind b x c y m counted (Call.Update j v) w (Reply.Changed s) is refl refl (noted_by (Reply.Changed s) is) in absurd a.fits
 
-  pub update_if_told : (j e v : ℕ) → CallBegins t x b (Call.UpdateIf j e v) → (r : Reply) → reply_of c ≡ Some r → UpdateIfTold (port_view t x) j e v r (port_view t y)
+  pub update_if_told : (j e v : ℕ) → CallBegins t x b (Call.UpdateIf j e v) → (r : Reply) → reply_of c ≡ Some r → UpdateIfTold (port_view t before x) j e v r (port_view t behind y)
   update_if_told j e v w (Reply.Applied s) is =
-      let a = answered_with t b x c y m (Call.UpdateIf j e v) w (Reply.Applied s) is refl refl (noted_by (Reply.Applied s) is) in
-      (wrote_if_note (port_view t x) (port_view t y) c j e v s a.note a.answered a.fits a.placed, a.led)
+      let a = answered_with t before behind b x c y m counted (Call.UpdateIf j e v) w (Reply.Applied s) is refl refl (noted_by (Reply.Applied s) is) in
+      (wrote_if_note (port_view t before x) (port_view t behind y) c j e v s a.note a.answered a.fits a.placed, a.led)
   update_if_told j e v w (Reply.Changed s) is =
-      let a = answered_with t b x c y m (Call.UpdateIf j e v) w (Reply.Changed s) is refl refl (noted_by (Reply.Changed s) is) in
-      (changed_note (port_view t x) (port_view t y) c j e v s a.note a.answered a.fits, a.led)
-  update_if_told j e v w (Reply.Refused cause) is = (refused_with t b x c y m (Call.UpdateIf j e v) w cause is, refusal_led t b x c y m (Call.UpdateIf j e v) w cause is)
-  update_if_told j e v w (Reply.Read u s) is = let a = answered_with t b x c y m (Call.UpdateIf j e v) w (Reply.Read u s) is refl refl (noted_by (Reply.Read u s) is) in absurd a.fits
-  update_if_told j e v w (Reply.Scanned k s) is = let a = answered_with t b x c y m (Call.UpdateIf j e v) w (Reply.Scanned k s) is refl refl (noted_by (Reply.Scanned k s) is) in absurd a.fits
-  update_if_told j e v w (Reply.Lost s) is = let a = answered_with t b x c y m (Call.UpdateIf j e v) w (Reply.Lost s) is refl refl (noted_by (Reply.Lost s) is) in absurd a.fits
+      let a = answered_with t before behind b x c y m counted (Call.UpdateIf j e v) w (Reply.Changed s) is refl refl (noted_by (Reply.Changed s) is) in
+      (changed_note (port_view t before x) (port_view t behind y) c j e v s a.note a.answered a.fits, a.led)
+  update_if_told j e v w (Reply.Refused cause) is = (refused_with t before behind b x c y m counted (Call.UpdateIf j e v) w cause is, refusal_led t before behind b x c y m counted (Call.UpdateIf j e v) w cause is)
+  update_if_told j e v w (Reply.Read u s) is = let a = answered_with t before behind b x c y m counted (Call.UpdateIf j e v) w (Reply.Read u s) is refl refl (noted_by (Reply.Read u s) is) in absurd a.fits
+  update_if_told j e v w (Reply.Scanned k s) is = let a = answered_with t before behind b x c y m counted (Call.UpdateIf j e v) w (Reply.Scanned k s) is refl refl (noted_by (Reply.Scanned k s) is) in absurd a.fits
+  update_if_told j e v w (Reply.Lost s) is = let a = answered_with t before behind b x c y m counted (Call.UpdateIf j e v) w (Reply.Lost s) is refl refl (noted_by (Reply.Lost s) is) in absurd a.fits
 
-  pub read_told : (j : ℕ) → CallBegins t x b (Call.Read j) → (r : Reply) → reply_of c ≡ Some r → ReadTold (port_view t x) j r (port_view t y)
+  pub read_told : (j : ℕ) → CallBegins t x b (Call.Read j) → (r : Reply) → reply_of c ≡ Some r → ReadTold (port_view t before x) j r (port_view t behind y)
   read_told j w (Reply.Read u s) is =
-      let a = answered_with t b x c y m (Call.Read j) w (Reply.Read u s) is refl refl (noted_by (Reply.Read u s) is) in
-      (read_note (port_view t x) (port_view t y) c j u s a.note a.answered a.fits, a.led)
-  read_told j w (Reply.Refused Refused.Component) is = let a = (refusal_led t b x c y m (Call.Read j) w Refused.Component is).last in absurd a.past
-  read_told j w (Reply.Refused Refused.PoolSpent) is = let a = refused_with t b x c y m (Call.Read j) w Refused.PoolSpent is in absurd a.may.1
-  read_told j w (Reply.Refused Refused.SlotsSpent) is = let a = refused_with t b x c y m (Call.Read j) w Refused.SlotsSpent is in absurd a.may.1
-  read_told j w (Reply.Applied s) is = let a = answered_with t b x c y m (Call.Read j) w (Reply.Applied s) is refl refl (noted_by (Reply.Applied s) is) in absurd a.fits
-  read_told j w (Reply.Lost s) is = let a = answered_with t b x c y m (Call.Read j) w (Reply.Lost s) is refl refl (noted_by (Reply.Lost s) is) in absurd a.fits
-  read_told j w (Reply.Scanned k s) is = let a = answered_with t b x c y m (Call.Read j) w (Reply.Scanned k s) is refl refl (noted_by (Reply.Scanned k s) is) in absurd a.fits
-  read_told j w (Reply.Changed s) is = let a = answered_with t b x c y m (Call.Read j) w (Reply.Changed s) is refl refl (noted_by (Reply.Changed s) is) in absurd a.fits
+      let a = answered_with t before behind b x c y m counted (Call.Read j) w (Reply.Read u s) is refl refl (noted_by (Reply.Read u s) is) in
+      (read_note (port_view t before x) (port_view t behind y) c j u s a.note a.answered a.fits, a.led)
+  read_told j w (Reply.Refused Refused.Component) is = let a = (refusal_led t before behind b x c y m counted (Call.Read j) w Refused.Component is).last in absurd a.past
+  read_told j w (Reply.Refused Refused.PoolSpent) is = let a = refused_with t before behind b x c y m counted (Call.Read j) w Refused.PoolSpent is in absurd a.may.1
+  read_told j w (Reply.Refused Refused.SlotsSpent) is = let a = refused_with t before behind b x c y m counted (Call.Read j) w Refused.SlotsSpent is in absurd a.may.1
+  read_told j w (Reply.Applied s) is = let a = answered_with t before behind b x c y m counted (Call.Read j) w (Reply.Applied s) is refl refl (noted_by (Reply.Applied s) is) in absurd a.fits
+  read_told j w (Reply.Lost s) is = let a = answered_with t before behind b x c y m counted (Call.Read j) w (Reply.Lost s) is refl refl (noted_by (Reply.Lost s) is) in absurd a.fits
+  read_told j w (Reply.Scanned k s) is = let a = answered_with t before behind b x c y m counted (Call.Read j) w (Reply.Scanned k s) is refl refl (noted_by (Reply.Scanned k s) is) in absurd a.fits
+  read_told j w (Reply.Changed s) is = let a = answered_with t before behind b x c y m counted (Call.Read j) w (Reply.Changed s) is refl refl (noted_by (Reply.Changed s) is) in absurd a.fits
 
   saw_note : (which : List ℕ) → CallBegins t x b (Call.Scan which) → b.stage ≡ ScanBegun → b.asked ≡ which → (k : ℕ) (s : Option ℕ) (n : Note) → reply_of c ≡ Some (Reply.Scanned k s) →
       NoteFits (length y.about.opening.values) (Call.Scan which) (Answer.Scanned (scanned_values c) k s) (Some n)
-      → Answered (port_view t x) (port_view t y) (Call.Scan which) (Answer.Scanned (scanned_values c) k s) n
-      → ScanTold (port_view t x) which c (Reply.Scanned k s) (port_view t y)
+      → Answered (port_view t before x) (port_view t behind y) (Call.Scan which) (Answer.Scanned (scanned_values c) k s) n
+      → ScanTold (port_view t before x) which c (Reply.Scanned k s) (port_view t behind y)
   saw_note which w stage asked k s (Note.Saw n) is f a =
       let z : Layout = x.about.sizes in
       let layout : IsLayout z = subst IsLayout w.begins.sizes w.begins.layout in
       let steps = (made_calls_make_their_steps z x.about.opening b x.part c y.part layout m.made).scan k s stage is in (
         (n, a),
         record {
-          to = record { reply = Reply.Scanned k s; led = led_here t b x c y m (Call.Scan which) w (Reply.Scanned k s) is; answer = refl };
+          to = record { reply = Reply.Scanned k s; led = led_here t before behind b x c y m counted (Call.Scan which) w (Reply.Scanned k s) is; answer = refl };
           steps = subst (λ (l : List ℕ). AreOfScan (length l) k (pairs_loaded b (answers_of y.part.kept)) (length y.part.kept) s) asked steps;
         },
       )
@@ -271,39 +271,39 @@ module _ (t : TableId) (b : CoreState) (x : SeatedPort) (c : CoreState) (y : Sea
   saw_note which w stage asked k s (Note.Lost n) is f a = absurd f
 
   pub scan_told : (which : List ℕ) → CallBegins t x b (Call.Scan which) → b.stage ≡ ScanBegun → b.asked ≡ which → (r : Reply) → reply_of c ≡ Some r →
-      ScanTold (port_view t x) which c r (port_view t y)
+      ScanTold (port_view t before x) which c r (port_view t behind y)
   scan_told which w stage asked (Reply.Scanned k s) is =
-      let a = answered_with t b x c y m (Call.Scan which) w (Reply.Scanned k s) is refl refl (noted_by (Reply.Scanned k s) is) in saw_note which w stage asked k s a.note is a.fits a.answered
-  scan_told which w stage asked (Reply.Refused cause) is = (refused_with t b x c y m (Call.Scan which) w cause is, refusal_led t b x c y m (Call.Scan which) w cause is)
-  scan_told which w stage asked (Reply.Applied s) is = let a = answered_with t b x c y m (Call.Scan which) w (Reply.Applied s) is refl refl (noted_by (Reply.Applied s) is) in absurd a.fits
-  scan_told which w stage asked (Reply.Lost s) is = let a = answered_with t b x c y m (Call.Scan which) w (Reply.Lost s) is refl refl (noted_by (Reply.Lost s) is) in absurd a.fits
-  scan_told which w stage asked (Reply.Read u s) is = let a = answered_with t b x c y m (Call.Scan which) w (Reply.Read u s) is refl refl (noted_by (Reply.Read u s) is) in absurd a.fits
-  scan_told which w stage asked (Reply.Changed s) is = let a = answered_with t b x c y m (Call.Scan which) w (Reply.Changed s) is refl refl (noted_by (Reply.Changed s) is) in absurd a.fits
+      let a = answered_with t before behind b x c y m counted (Call.Scan which) w (Reply.Scanned k s) is refl refl (noted_by (Reply.Scanned k s) is) in saw_note which w stage asked k s a.note is a.fits a.answered
+  scan_told which w stage asked (Reply.Refused cause) is = (refused_with t before behind b x c y m counted (Call.Scan which) w cause is, refusal_led t before behind b x c y m counted (Call.Scan which) w cause is)
+  scan_told which w stage asked (Reply.Applied s) is = let a = answered_with t before behind b x c y m counted (Call.Scan which) w (Reply.Applied s) is refl refl (noted_by (Reply.Applied s) is) in absurd a.fits
+  scan_told which w stage asked (Reply.Lost s) is = let a = answered_with t before behind b x c y m counted (Call.Scan which) w (Reply.Lost s) is refl refl (noted_by (Reply.Lost s) is) in absurd a.fits
+  scan_told which w stage asked (Reply.Read u s) is = let a = answered_with t before behind b x c y m counted (Call.Scan which) w (Reply.Read u s) is refl refl (noted_by (Reply.Read u s) is) in absurd a.fits
+  scan_told which w stage asked (Reply.Changed s) is = let a = answered_with t before behind b x c y m counted (Call.Scan which) w (Reply.Changed s) is refl refl (noted_by (Reply.Changed s) is) in absurd a.fits
 
 -- the same at a call, from a port between calls that callers see as p, to one that they see as q
-module _ (views : List (List SeatedPort)) (core : CoreState) (number : ℕ) (w : IsResting views core number) (t t' : TableId) (same : t' ≡ t) (p : PortView) (seen : port_view t (one_in views) ≡ p)
-    (b : CoreState) (r : Reply) (next : CoreState) (y : SeatedPort) (e : CallEnded b (one_in views) r next y) where
-  seen_as : (P : PortView → PortView → Type 0) → P (port_view t (one_in views)) (port_view t y) → P p (port_view t' y)
-  seen_as P h = subst (λ (u : TableId). P p (port_view u y)) (sym same) (subst (λ (v : PortView). P v (port_view t y)) seen h)
+module _ (views : List (List SeatedPort)) (core : CoreState) (number : ℕ) (w : IsResting views core number) (t t' : TableId) (same : t' ≡ t) (before behind : ℕ) (p : PortView) (seen : port_view t before (one_in views) ≡ p)
+    (b : CoreState) (r : Reply) (next : CoreState) (y : SeatedPort) (e : CallEnded b (one_in views) r next y) (counted : HasCounted before y behind) where
+  seen_as : (P : PortView → PortView → Type 0) → P (port_view t before (one_in views)) (port_view t behind y) → P p (port_view t' behind y)
+  seen_as P h = subst (λ (u : TableId). P p (port_view u behind y)) (sym same) (subst (λ (v : PortView). P v (port_view t behind y)) seen h)
 
-  pub update_ended : (j v : ℕ) → core_update_refusal core j ≡ None → b ≡ begun_of core (Call.Update j v) → (s : Reply) → r ≡ s → UpdateTold p j v s (port_view t' y)
+  pub update_ended : (j v : ℕ) → core_update_refusal core j ≡ None → b ≡ begun_of core (Call.Update j v) → (s : Reply) → r ≡ s → UpdateTold p j v s (port_view t' behind y)
   update_ended j v none is s told = seen_as (λ a z. UpdateTold a j v s z)
-      (update_told t b (one_in views) e.machine y e.made j v (call_begins views core number w t b (Call.Update j v) tt none refl is) s (e.replies ∙ ap Some told))
+      (update_told t before behind b (one_in views) e.machine y e.made counted j v (call_begins views core number w t b (Call.Update j v) tt none refl is) s (e.replies ∙ ap Some told))
 
-  pub update_if_ended : (j x v : ℕ) → core_update_refusal core j ≡ None → b ≡ begun_of core (Call.UpdateIf j x v) → (s : Reply) → r ≡ s → UpdateIfTold p j x v s (port_view t' y)
+  pub update_if_ended : (j x v : ℕ) → core_update_refusal core j ≡ None → b ≡ begun_of core (Call.UpdateIf j x v) → (s : Reply) → r ≡ s → UpdateIfTold p j x v s (port_view t' behind y)
   update_if_ended j x v none is s told = seen_as (λ a z. UpdateIfTold a j x v s z)
-      (update_if_told t b (one_in views) e.machine y e.made j x v (call_begins views core number w t b (Call.UpdateIf j x v) tt none refl is) s (e.replies ∙ ap Some told))
+      (update_if_told t before behind b (one_in views) e.machine y e.made counted j x v (call_begins views core number w t b (Call.UpdateIf j x v) tt none refl is) s (e.replies ∙ ap Some told))
 
-  pub read_ended : (j : ℕ) → j < core.sizes.m → b ≡ at_stage core (ReadBegun j) → (s : Reply) → r ≡ s → ReadTold p j s (port_view t' y)
+  pub read_ended : (j : ℕ) → j < core.sizes.m → b ≡ at_stage core (ReadBegun j) → (s : Reply) → r ≡ s → ReadTold p j s (port_view t' behind y)
   read_ended j below is s told = seen_as (λ a z. ReadTold a j s z)
-      (read_told t b (one_in views) e.machine y e.made j (read_begins views core number w t b j below is) s (e.replies ∙ ap Some told))
+      (read_told t before behind b (one_in views) e.machine y e.made counted j (read_begins views core number w t b j below is) s (e.replies ∙ ap Some told))
 
   pub scan_ended : (which : List ℕ) → length which ≤ core.sizes.m → (length which ≡ 0 → ⊥) → core_scan_refusal core which ≡ None → b ≡ begin_scan core which → (s : Reply) → r ≡ s →
-      ScanTold p which e.machine s (port_view t' y)
+      ScanTold p which e.machine s (port_view t' behind y)
   scan_ended which served some none is s told =
       let begins = scan_begins views core number w t b which served some none is in
       let stage : b.stage ≡ ScanBegun = ap (λ (d : CoreState). d.stage) is ∙ ap (λ f. if f then Finished (Reply.Scanned 0 None) else ScanBegun) (ne_eqb (length which) 0 some) in
-      seen_as (λ a z. ScanTold a which e.machine s z) (scan_told t b (one_in views) e.machine y e.made which begins stage (ap (λ (d : CoreState). d.asked) is) s (e.replies ∙ ap Some told))
+      seen_as (λ a z. ScanTold a which e.machine s z) (scan_told t before behind b (one_in views) e.machine y e.made counted which begins stage (ap (λ (d : CoreState). d.asked) is) s (e.replies ∙ ap Some told))
 
 -- the values that a scan copied are those of the machine that replied
 pub scan_copied : (p q : PortView) (which into : List ℕ) (machine : CoreState) (rows : RowsState) (k : ℕ) (s : Option ℕ) → (length which ≡ 0 → ⊥) → machine.asked ≡ which → rows ≡ machine.rows →

@@ -6,10 +6,10 @@ use Rattle.partial_model.specs.Refusals.{refusal_at_once}
 pub record CallBegins (t : TableId) (x : SeatedPort) (b : CoreState) (c : Call) : Type 0 where
   pub begins : Begins b x
   pub call : call_of b ≡ Some c
-  pub allowed : refusal (port_view t x) c ≡ None
+  pub allowed : refusal (port_view t 0 x) c ≡ None
 
 module _ (views : List (List SeatedPort)) (core : CoreState) (number : ℕ) (w : IsResting views core number) where
-  pub refusal_here : (t : TableId) (c : Call) → refusal (port_view t (one_in views)) c ≡ refusal_of core c
+  pub refusal_here : (t : TableId) (c : Call) → refusal (port_view t 0 (one_in views)) c ≡ refusal_of core c
   refusal_here t c =
       let x = one_in views in
       let s : Layout = core.sizes in
@@ -83,6 +83,6 @@ rests views b x r core number one begins e named =
     }
 
 -- a port stays one of its memory
-pub same_memory : (t t' : TableId) (x y : SeatedPort) (p : PortView) (m : MemoryView) → port_view t x ≡ p → IsOf m p → t' ≡ t → y.about ≡ x.about → IsOf m (port_view t' y)
-same_memory t t' x y p m seen own table about =
+pub same_memory : (t t' : TableId) (n : ℕ) (x y : SeatedPort) (p : PortView) (m : MemoryView) → port_view t n x ≡ p → IsOf m p → t' ≡ t → y.about ≡ x.about → IsOf m (port_view t' 0 y)
+same_memory t t' n x y p m seen own table about =
     ap (λ (u : TableId). record { table = u; about = y.about }) table ∙ ap (λ (o : About). record { table = t; about = o }) about ∙ ap (λ (v : PortView). v.memory) seen ∙ own

@@ -1,5 +1,5 @@
 -- Each step that is due is allowed: whatever the table is then, the words and the ports of all seats stay those of a lawful state.
-use Rattle.partial_memory.proofs.{Common.{ℕ, zero, suc, ◌≡◌, ◌+◌, ◌<◌, ◌==◌, ◌%◌, ◌^◌, ◌++◌, Bool, true, false, if◌then◌else◌, Some, List, [], ◌∷◌, map, slice_index, slice_set, refl, sym, ap, subst, ◌∙◌, arith, AllByRecursion, some, get_elem?, Me, keeps, Allows, Applied, Step, Load, Store, Exchange, Add, word_of, answer_of, words_after, CoreState, step_of, all_at, all_join, all_before, all_after, Part, IsMachineOf, port_of, Lawful, LeadsOn, added_by, steps_stay_lawful, lawful_ports_fit, lawful_machines_are_ready, About, SeatedPort, AreOpened, AreByOpened, Told, IsRuleKept, IsShuffle, IsOne, one_of, parts_of, makes, Contains, set-get_or}, Shuffles.find, Views.around}
+use Rattle.partial_memory.proofs.{Common.{around, ℕ, zero, suc, ◌≡◌, ◌+◌, ◌<◌, ◌==◌, ◌%◌, ◌^◌, ◌++◌, Bool, true, false, if◌then◌else◌, Some, List, [], ◌∷◌, map, slice_index, slice_set, refl, sym, ap, subst, ◌∙◌, arith, AllByRecursion, some, get_elem?, Me, keeps, Allows, Applied, Step, Load, Store, Exchange, Add, word_of, answer_of, words_after, CoreState, step_of, all_at, all_join, all_before, all_after, Part, IsMachineOf, port_of, Lawful, LeadsOn, added_by, steps_stay_lawful, lawful_ports_fit, lawful_machines_are_ready, About, SeatedPort, AreOpened, AreByOpened, Told, IsRuleKept, IsShuffle, IsOne, one_of, parts_of, makes, Contains, set-get_or}, Shuffles.find}
 use prog.Atomic.{either}
 use Rattle.partial_core.specs.{Lawful.LawfulAmong, Part.PartAmong}
 
@@ -65,7 +65,7 @@ module _ (words : List ℕ) (before : List SeatedPort) (x : SeatedPort) (after :
 
   -- the port after the step, and the history
   abbrev pub next : SeatedPort
-  next = record { about = x.about; part = leads.y; steps = x.steps + 1 }
+  next = record { about = x.about; part = leads.y }
 
   abbrev pub longer : List Applied
   longer = log ++ added_by x.about.sizes (port_of x.part) words s
@@ -87,7 +87,6 @@ module _ (words : List ℕ) (before : List SeatedPort) (x : SeatedPort) (after :
       let seen : leads.y.seen ≡ longer = ap (λ (v : Part). v.seen) leads.tells.part in
       record {
         about = refl;
-        steps = refl;
         sound = ready.sound;
         log = log;
         entries = added_by x.about.sizes (port_of x.part) words s;

@@ -1,5 +1,5 @@
 -- Calls in straight lines: each step is allowed, and leads the call on.
-use Rattle.partial_memory.proofs.{Common.{ℕ, ◌≡◌, ◌<◌, Some, List, refl, sym, subst, ◌∙◌, inl, inr, Me, Allows, TableId, Step, total, word_of, CoreState, advance, step_of, IsMachineOf, core_of, About, SeatedPort, IsRuleKept, IsOne, Told, makes, one_of, Begins, CallMade, IsGoing, IsUnderWay, ComesTo, machine_of}, Calls.{runs_machine, runs_on, runs_within}, Steps.{step_asked, change_of, told_of}}
+use Rattle.partial_memory.proofs.{Common.{ℕ, ◌≡◌, ◌<◌, Some, List, refl, sym, subst, ◌∙◌, inl, inr, Me, Allows, TableId, Step, total, word_of, CoreState, advance, step_of, IsMachineOf, core_of, About, SeatedPort, IsRuleKept, IsOne, Told, makes, one_of, ◌+◌, Begins, CallMade, IsGoing, IsUnderWay, ComesTo, CountsOn, HasCounted, machine_of}, Calls.{first_counted, next_counted, runs_machine, runs_on, runs_within}, Steps.{step_asked, change_of, told_of}}
 
 -- a call in its middle at the port x, whose next step is answered
 module _ (x : SeatedPort) (under : IsUnderWay x) (s : Step) (due : step_of (core_of x.part) ≡ Some s) where
@@ -15,6 +15,9 @@ module _ (x : SeatedPort) (under : IsUnderWay x) (s : Step) (due : step_of (core
 
     pub next_leads : ComesTo x y
     next_leads b h begins m = subst (λ (d : CoreState). CallMade b h d y) (sym next_is) (runs_on b h (core_of x.part) x a y s begins (inr m) due told)
+
+    pub next_counts : (n m : ℕ) → m ≡ n + 1 → CountsOn n x m y
+    next_counts = let m = under.3 in next_counted (core_of x.part) x a y m.made.machine.going told
 
     pub next_under : IsUnderWay y
     next_under = (under.0, under.1, under.2, next_leads under.0 under.1 under.2 under.3)
@@ -45,3 +48,6 @@ module _ (b : CoreState) (x : SeatedPort) (begins : Begins b x) (s : Step) (due 
 
   pub first_leads : CallMade b x (core_of y.part) y
   first_leads = subst (λ (d : CoreState). CallMade b x d y) (sym first_is) (runs_on b x b x a y s begins (inl (refl, refl)) due told)
+
+  pub first_counts : (n m : ℕ) → m ≡ n + 1 → HasCounted n y m
+  first_counts = first_counted b x a y begins told

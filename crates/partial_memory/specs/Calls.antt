@@ -8,7 +8,6 @@ pub use Rattle.partial_lines.specs.declared.whole_scan.Scanned.{Scanned}
 use Rattle.partial_memory.specs.declared.answers.Updated.{Updated}
 use Rattle.partial_memory.specs.declared.answers.Updated.TheVariants.{Applied as IsApplied, Lost}
 use Rattle.partial_memory.specs.declared.answers.UpdatedIf.{UpdatedIf}
-use Rattle.partial_memory.specs.Rule.{meeting_steps}
 use Rattle.partial_memory.specs.Ports.{PortView, Answered, Knows}
 
 -- An update that ended: an applied one is the last entry of all that is seen, a lost one was overwritten by an entry that had not been
@@ -33,16 +32,20 @@ Scans p [] values s q = (values ≡ []) × (s.collects ≡ 0) × (s.borrowed ≡
 Scans p (j ∷ js) values s q =
     (n : ℕ) × Answered p q (Call.Scan (j ∷ js)) (Answer.Scanned values s.collects s.borrowed) (Note.Saw n)
 
--- the port after it has observed that history in a meeting
-abbrev pub met_port : List Applied → PortView → PortView
-met_port log p = record p { seen = log; steps = p.steps + meeting_steps }
+-- how many loads a meeting makes: one as the seats are joined, one to look, and one as they are split
+abbrev pub meeting_steps : ℕ
+meeting_steps = 3
+
+-- the port after it has observed that history in a meeting, with so many steps
+abbrev pub met_port : List Applied → ℕ → PortView → PortView
+met_port log n p = record p { seen = log; steps = n }
 
 -- Two ports that met: both have seen one history, which begins with all that each had seen, and of which each one's entries are those
--- of its notes. Nothing else has changed.
+-- of its notes. All their steps and those of the meeting count for the first one from then on. Nothing else has changed.
 pub record Meets (a b c d : PortView) : Type 0 where
   pub log : List Applied
-  pub first : c ≡ met_port log a
-  pub second : d ≡ met_port log b
+  pub first : c ≡ met_port log (a.steps + b.steps + meeting_steps) a
+  pub second : d ≡ met_port log 0 b
   pub first_seen : a.seen ≡ take (length a.seen) log
   pub second_seen : b.seen ≡ take (length b.seen) log
   pub first_knows : Knows c

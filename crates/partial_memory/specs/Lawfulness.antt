@@ -4,7 +4,7 @@ use Rattle.partial_model.specs.declared.history.Applied.{Applied}
 use Rattle.partial_core.specs.Lawful.{Lawful}
 use Rattle.partial_memory.specs.declared.closed.Closed.{Closed}
 use Rattle.partial_memory.specs.Rule.{SeatedPort, AreOpened, IsShuffle, parts_of}
-use Rattle.partial_memory.specs.Ports.{MemoryView, PortView, port_view}
+use Rattle.partial_memory.specs.Ports.{MemoryView, PortView, port_view, without_steps}
 use Rattle.partial_memory.specs.Closing.{Closes}
 
 -- The memory was in a lawful state with that history: words, and the parts of all its ports in some order, these among them.
@@ -13,7 +13,7 @@ pub record WasLawful (m : MemoryView) (log : List Applied) (ports : List PortVie
   pub here : List SeatedPort
   pub others : List SeatedPort
   pub all : List SeatedPort
-  pub shown : map (port_view m.table) here ≡ ports
+  pub shown : map (port_view m.table 0) here ≡ map without_steps ports
   pub shuffle : IsShuffle (here ++ others) all
   pub opened : AreOpened m.about.ports all
   pub lawful : Lawful m.about.sizes m.about.opening words (parts_of all) log

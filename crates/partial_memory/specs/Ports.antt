@@ -1,6 +1,6 @@
 -- Memories and ports as callers see them, and what a call leaves of its port.
 use Rattle.std.specs.Prelude.{ℕ, ◌≡◌, ◌+◌, ◌<◌, ◌≤◌, ◌⊎◌, Bool, true, false, ◌||◌, List, [], ◌∷◌, ◌++◌, length, take, map, Option, Some, None}
-use Rattle.atomic_table.specs.Seated.{TableId}
+use Rattle.partial_table.specs.Table.{TableId}
 use Rattle.partial_model.specs.declared.history.Applied.{Applied}
 use Rattle.partial_model.specs.declared.call.Call.{Call}
 use Rattle.partial_model.specs.declared.call.Answer.{Answer}
@@ -26,7 +26,8 @@ pub record MemoryView : Type 0 where
   pub about : About
 
 -- A port: the memory that it belongs to, its number, the history that it has seen, the notes of its calls, its marks for the pool and
--- the slots, how many steps it has made, and the answers to those of its last call that made any, each with the history's length then.
+-- the slots, how many steps its seat has made, and the answers to those of its last call that made any, each with the history's length
+-- then.
 pub record PortView : Type 0 where
   pub memory : MemoryView
   pub number : ℕ
@@ -37,22 +38,26 @@ pub record PortView : Type 0 where
   pub steps : ℕ
   pub kept : List KeptAnswer
 
--- a port as a contract sees it, by the table and what its seat knows
-abbrev pub port_view : TableId → SeatedPort → PortView
-port_view table x = record {
+-- a port as a contract sees it, by the table, the steps of its seat and what that knows
+abbrev pub port_view : TableId → ℕ → SeatedPort → PortView
+port_view table steps x = record {
   memory = record { table = table; about = x.about };
   number = port_of x.part;
   seen = x.part.seen;
   notes = x.part.notes;
   pool_spent = (core_of x.part).pool_spent;
   slots_spent = (core_of x.part).slots_spent;
-  steps = x.steps;
+  steps = steps;
   kept = x.part.kept;
 }
 
--- the ports of a new memory
+-- the ports of a new memory: the seat of each was made by one load
 abbrev pub new_ports : TableId → List SeatedPort → List PortView
-new_ports table xs = map (port_view table) xs
+new_ports table xs = map (port_view table 1) xs
+
+-- the port without the count of its steps
+abbrev pub without_steps : PortView → PortView
+without_steps p = record p { steps = 0 }
 
 -- the port belongs to the memory
 abbrev pub IsOf : MemoryView → PortView → Type 0

@@ -1,7 +1,8 @@
 -- The rule of the table: the parts of all views are those of one lawful state. And what a port learns by its steps.
-use Rattle.std.specs.Prelude.{ℕ, zero, suc, ◌≡◌, ◌+◌, ◌<◌, List, [], ◌∷◌, ◌++◌, length, map, take}
+use Rattle.std.specs.Prelude.{ℕ, ◌≡◌, ◌<◌, List, [], ◌∷◌, ◌++◌, length, map, take}
 use Rattle.std.specs.List.{AllByRecursion}
-use Rattle.atomic_table.specs.Table.{State, Step, Me}
+use Rattle.partial_table.specs.Seats.{flatten, numbered}
+use Rattle.partial_table.specs.Table.{State, Me}
 use Rattle.partial_model.specs.declared.history.Applied.{Applied}
 use Rattle.partial_machine.specs.Machine.{CoreState}
 use Rattle.partial_machine.specs.Sound.{IsSound}
@@ -10,16 +11,10 @@ use Rattle.partial_core.specs.Lawful.{Lawful}
 use Rattle.partial_core.specs.Steps.{FitsHistory, Tells}
 use Rattle.partial_memory.specs.declared.rule.About.{About}
 
--- what a seat knows of a port: the memory that it belongs to, the port's part of the lawful state, and how many steps it has made
+-- what a seat knows of a port: the memory that it belongs to, and the port's part of the lawful state
 pub record SeatedPort : Type 0 where
   pub about : About
   pub part : Part
-  pub steps : ℕ
-
--- the ports of all views
-abbrev pub flatten : List (List SeatedPort) → List SeatedPort
-flatten [] = []
-flatten (v ∷ vs) = v ++ flatten vs
 
 -- the parts of these ports
 abbrev pub parts_of : List SeatedPort → List Part
@@ -44,12 +39,11 @@ pub record IsRuleKept {S : Type 0} (about : About) (s : State S (List SeatedPort
 
 -- a port that has made no call
 abbrev pub newcomer : About → ℕ → SeatedPort
-newcomer about port = record { about = about; part = fresh_part about.sizes port; steps = 0 }
+newcomer about port = record { about = about; part = fresh_part about.sizes port }
 
 -- n such ports from that number on
 abbrev pub newcomers : About → ℕ → ℕ → List SeatedPort
-newcomers about port zero = []
-newcomers about port (suc n) = newcomer about port ∷ newcomers about (port + 1) n
+newcomers about port n = numbered (newcomer about) port n
 
 -- what is taken for a port when a view has none
 abbrev pub nobody : SeatedPort
@@ -81,7 +75,6 @@ AreByOpened about h = AllByRecursion (λ e. e.port < about.ports) h
 -- what a seat learns by a step of the machine c: what its port learns by the law of steps, and that each entry is by a port that was opened
 pub record Told (c : CoreState) (x : SeatedPort) (a : ℕ) (y : SeatedPort) : Type 0 where
   pub about : y.about ≡ x.about
-  pub steps : y.steps ≡ x.steps + 1
   pub sound : IsSound c
   pub log : List Applied
   pub entries : List Applied
@@ -93,26 +86,12 @@ abbrev pub makes : {S : Type 0} → CoreState → Me S (List SeatedPort) → ℕ
 makes c me a me' = IsOne me' × Told c (one_of me.0) a (one_of me'.0)
 
 -- a further step of the call of a seat: of the machine to which the port's kept answers lead
-abbrev pub goes_on : {S : Type 0} → Step S → Me S (List SeatedPort) → ℕ → Me S (List SeatedPort) → Type 0
-goes_on s me = makes (core_of (one_of me.0).part) me
-
--- the first port of a view, as a view of its own
-abbrev pub first_port : List SeatedPort → List SeatedPort
-first_port [] = []
-first_port (x ∷ xs) = x ∷ []
-
--- the ports of a view but the first
-abbrev pub further_ports : List SeatedPort → List SeatedPort
-further_ports [] = []
-further_ports (x ∷ xs) = xs
-
--- how many loads a meeting makes: one as the seats are joined, one to look, and one as they are split
-abbrev pub meeting_steps : ℕ
-meeting_steps = 3
+abbrev pub goes_on : {S : Type 0} → Me S (List SeatedPort) → ℕ → Me S (List SeatedPort) → Type 0
+goes_on me = makes (core_of (one_of me.0).part) me
 
 -- the port after it has observed that history in a meeting
 abbrev pub having_met : List Applied → SeatedPort → SeatedPort
-having_met log x = record { about = x.about; part = with_seen log x.part; steps = x.steps + meeting_steps }
+having_met log x = record { about = x.about; part = with_seen log x.part }
 
 -- the port has seen a beginning of the history, and knows what a port knows of it
 pub record IsIn (log : List Applied) (x : SeatedPort) : Type 0 where

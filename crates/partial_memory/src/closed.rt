@@ -17,7 +17,7 @@ pub struct Closed {
 }
 
 /// The words of a table that threads no longer share.
-pub type ClosedWords = atomic_table::Closed<(), Global>;
+pub type ClosedWords = partial_table::Closed<(), Global>;
 
 // Collects the records of a component from the newest on. Each names the one before it.
 fn chain(alloc: Global, words: &ClosedWords, newest: u64) -> Result<Vec<Link>, AllocError>

@@ -9,9 +9,9 @@ ghost use Rattle.partial_machine.specs.Lines.{scan_asked};
 ghost use Rattle.partial_machine.specs.Machine.{advance, at_stage, step_of};
 ghost use Rattle.partial_machine.specs.Possible.{IsPossible};
 ghost use Rattle.partial_memory.specs.Rule.{IsOne, one_of};
-ghost use Rattle.partial_memory.specs.Inner.Steps.{Begins, CallMade, IsAtRest};
+ghost use Rattle.partial_memory.specs.Inner.Steps.{Begins, CallMade, HasCounted, IsAtRest};
 ghost use Rattle.std.proofs.Common.{refl, ◌∙◌};
-ghost use Rattle.partial_memory.specs.Inner.Lines.{IsGoing, ComesTo, leads_itself, leads_on, machine_of};
+ghost use Rattle.partial_memory.specs.Inner.Lines.{IsGoing, ComesTo, CountsOn, leads_itself, leads_on, machine_of};
 
 use crate::rule::{GoesOn, MachineStep, Moment, PortSeat, PutsOn, Words};
 use partial_core::{Change, Core};
@@ -35,7 +35,8 @@ impl<'a> Makes for SeatLines<'a> {
 
     ghost machine = { λ l. machine_of l.seat.me };
 
-    ghost leads = { λ l k. (k.words ≡ l.words) × ComesTo (one_of l.seat.me.0) (one_of k.seat.me.0) };
+    ghost leads = { λ l k. (k.words ≡ l.words) × ComesTo (one_of l.seat.me.0) (one_of k.seat.me.0) ×
+        CountsOn l.seat.steps (one_of l.seat.me.0) k.seat.steps (one_of k.seat.me.0) };
 
     #[inline(always)]
     fn make(&mut self, step: Step) -> Result<u64, Infallible> {
@@ -54,11 +55,12 @@ impl<'a> Makes for SeatLines<'a> {
 
     ghost sound = { λ l w. let m = w.under.3 in m.made.sound };
 
-    ghost leads_itself = { λ l. (refl, leads_itself (one_of l.seat.me.0)) };
+    ghost leads_itself = { λ l. (refl, leads_itself (one_of l.seat.me.0), λ n counted. counted) };
 
     ghost leads_on = { λ l k j f g. (
       g.0 ∙ f.0,
       leads_on (one_of l.seat.me.0) (one_of k.seat.me.0) (one_of j.seat.me.0) f.1 g.1,
+      λ n counted. g.2 n (f.2 n counted),
     ) };
 }
 
@@ -73,6 +75,7 @@ fn begin_load<G: Moment>(words: &Words, seat: &mut PortSeat, core: &Core, compon
     requires begins { Begins G.core (one_of seat.old.me.0) }
     ensures going { IsGoing words.now.table_id words.now.key seat.new.table_id seat.new.me }
     ensures made { CallMade G.core (one_of seat.old.me.0) (machine_of seat.new.me) (one_of seat.new.me.0) }
+    ensures counted { HasCounted seat.old.steps (one_of seat.new.me.0) seat.new.steps }
     ensures machine { machine_of seat.new.me ≡ advance G.core result }
     ensures possible { IsPossible G.core result }
 {
@@ -90,6 +93,7 @@ pub fn begin_read<G: Moment>(words: &Words, seat: &mut PortSeat, core: &Core, co
     requires begins { Begins G.core (one_of seat.old.me.0) }
     ensures going { IsGoing words.now.table_id words.now.key seat.new.table_id seat.new.me }
     ensures made { CallMade G.core (one_of seat.old.me.0) (machine_of seat.new.me) (one_of seat.new.me.0) }
+    ensures counted { HasCounted seat.old.steps (one_of seat.new.me.0) seat.new.steps }
     ensures machine { machine_of seat.new.me ≡ advance G.core result }
     ensures possible { IsPossible G.core result }
 {
@@ -111,6 +115,7 @@ pub fn begin_update<G: Moment>(
     requires begins { Begins G.core (one_of seat.old.me.0) }
     ensures going { IsGoing words.now.table_id words.now.key seat.new.table_id seat.new.me }
     ensures made { CallMade G.core (one_of seat.old.me.0) (machine_of seat.new.me) (one_of seat.new.me.0) }
+    ensures counted { HasCounted seat.old.steps (one_of seat.new.me.0) seat.new.steps }
     ensures machine { machine_of seat.new.me ≡ advance G.core result }
     ensures possible { IsPossible G.core result }
 {
@@ -127,6 +132,7 @@ pub fn begin_scan<G: Moment>(words: &Words, seat: &mut PortSeat, core: &Core, wh
     requires begins { Begins G.core (one_of seat.old.me.0) }
     ensures going { IsGoing words.now.table_id words.now.key seat.new.table_id seat.new.me }
     ensures made { CallMade G.core (one_of seat.old.me.0) (machine_of seat.new.me) (one_of seat.new.me.0) }
+    ensures counted { HasCounted seat.old.steps (one_of seat.new.me.0) seat.new.steps }
     ensures machine { machine_of seat.new.me ≡ advance G.core result }
     ensures possible { IsPossible G.core result }
 {
@@ -142,6 +148,7 @@ pub fn make(words: &Words, seat: &mut PortSeat, step: Step) -> u64
     requires due { step_of (machine_of seat.old.me) ≡ Some step }
     ensures going { IsGoing words.now.table_id words.now.key seat.new.table_id seat.new.me }
     ensures leads { ComesTo (one_of seat.old.me.0) (one_of seat.new.me.0) }
+    ensures counted { CountsOn seat.old.steps (one_of seat.old.me.0) seat.new.steps (one_of seat.new.me.0) }
     ensures machine { machine_of seat.new.me ≡ advance (machine_of seat.old.me) result }
     ensures possible { IsPossible (machine_of seat.old.me) result }
 {
@@ -166,6 +173,7 @@ pub fn make_load(words: &Words, seat: &mut PortSeat, word: u64) -> u64
     requires due { step_of (machine_of seat.old.me) ≡ Some (Load word) }
     ensures going { IsGoing words.now.table_id words.now.key seat.new.table_id seat.new.me }
     ensures leads { ComesTo (one_of seat.old.me.0) (one_of seat.new.me.0) }
+    ensures counted { CountsOn seat.old.steps (one_of seat.old.me.0) seat.new.steps (one_of seat.new.me.0) }
     ensures machine { machine_of seat.new.me ≡ advance (machine_of seat.old.me) result }
     ensures possible { IsPossible (machine_of seat.old.me) result }
 {

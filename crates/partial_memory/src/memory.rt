@@ -1,6 +1,6 @@
 //! The memory, and the calls of its ports.
 
-ghost use Rattle.std.specs.Prelude.{◌≡◌, ◌<◌, ◌≤◌, ◌⊎◌, ◌∷◌, length, Some, IfOk, IfErr};
+ghost use Rattle.std.specs.Prelude.{◌≡◌, ◌<◌, ◌≤◌, ◌⊎◌, [], ◌∷◌, length, Some, IfOk, IfErr};
 ghost use Rattle.partial_model.specs.declared.call.Call.TheVariants as call;
 ghost use Rattle.partial_words.specs.Layout.{pool_base};
 ghost use Rattle.partial_words.specs.Chain.{AreOpeningWords};
@@ -21,13 +21,13 @@ use crate::closed::{Closed, closed_of};
 use crate::error::{CloseError, OpenError};
 use crate::port::{Port, take_seat};
 use crate::read::read;
-use crate::rule::{About, Deals, Gathers, Lawful, Looks, PortSeat, View};
+use crate::rule::{About, Deals, Gathers, Looks, PortSeat, Words};
 use crate::scan::scan;
 use crate::update::{Ending, update};
-use atomic_table::Table;
 use partial_core::Core;
 use partial_lines::Scanned;
 use partial_model::{Opening, Refused, Sequence};
+use partial_table::Table;
 use partial_words::Sizes;
 use std::alloc::{AllocError, Global};
 use std::marker::Model;
@@ -37,7 +37,7 @@ use std::marker::Model;
 #[derive(Drop)]
 pub struct Memory {
     sizes: Sizes,
-    table: Table<(), View, About, Lawful, Global>,
+    table: Words,
 }
 
 impl Model for Memory {
@@ -47,10 +47,10 @@ impl Model for Memory {
 
     ghost Value = { MemoryView };
 
-    ghost view = { λ m. record { table = m.table.shared.table_id; about = m.table.shared.key } };
+    ghost view = { λ m. record { table = m.table.table_id; about = m.table.key } };
 
-    ghost invariant = { λ m. (m.sizes ≡ m.table.shared.key.sizes) ×
-        (m.table.shared.table_id.words ≡ total m.table.shared.key.sizes) × (m.table.shared.table_id.slots ≡ 0) };
+    ghost invariant = { λ m. (m.sizes ≡ m.table.key.sizes) ×
+        (m.table.table_id.words ≡ total m.table.key.sizes) × (m.table.table_id.slots ≡ 0) };
 }
 
 // The words at opening: after the initial records all of them are 0.
@@ -74,6 +74,34 @@ fn count_ports(ports: u32) -> Result<(), OpenError>
         return Err(OpenError::Ports);
     }
     Ok(())
+}
+
+// Makes the ports of a new memory in their order, each with a seat of its own.
+fn deal(
+    alloc: Global,
+    sizes: Sizes,
+    words: &Words,
+    mut seat: PortSeat,
+    ports: u32,
+) -> Result<Vec<Port>, AllocError>
+    requires sizes { words.now.key.sizes ≡ sizes }
+    requires few { ports ≤ 64 }
+    requires table { (seat.table_id ≡ words.now.table_id) × (0 < words.now.table_id.words) }
+    requires all { (seat.me ≡ (newcomers words.now.key 0 ports, [])) × (seat.steps ≡ 0) }
+    ensures { IfOk result (λ a. a.items ≡ new_ports words.now.table_id (newcomers words.now.key 0 ports)) }
+{
+    let mut all = Vec::with_capacity(alloc, ports as usize)?;
+    for number in 0..ports {
+        let core = Core::new(alloc, sizes, number)?;
+        let place = words.split_seat::<Deals>(&mut seat);
+        all.push_reserved(Port {
+            badge: place.into_badge(),
+            core,
+            number,
+            apart: [0; 16],
+        });
+    }
+    Ok(all)
 }
 
 impl Memory {
@@ -106,18 +134,8 @@ impl Memory {
             ports,
         };
         let words = opening_words(alloc, sizes, initial)?;
-        let mut all = Vec::with_capacity(alloc, ports as usize)?;
-        let (table, mut seat) = Table::of_words(alloc, &words, &about)?;
-        for number in 0..ports {
-            let core = Core::new(alloc, sizes, number)?;
-            let place = table.shared.split_seat::<Deals>(&mut seat);
-            all.push_reserved(Port {
-                badge: place.into_badge(),
-                core,
-                number,
-                apart: [0; 16],
-            });
-        }
+        let (table, seat) = Table::of_words(alloc, &words, &about)?;
+        let all = deal(alloc, sizes, &table, seat, ports)?;
         Ok((Memory { sizes, table }, all))
     }
 
@@ -174,7 +192,7 @@ impl Memory {
         ensures led_to_refusal { IfErr result (λ cause. IsLedWhereLate me.old me.new (call.Update component value) cause) }
     {
         me.core.may_update(component)?;
-        let words = &self.table.shared;
+        let words = &self.table;
         match update(&mut me.core, component, value, &mut me.badge, words, None) {
             Ending::Applied { stamp } => Ok(Updated::Applied { stamp }),
             Ending::Overtaken { by } => Ok(Updated::Lost { by }),
@@ -205,7 +223,7 @@ impl Memory {
         ensures led_to_refusal { IfErr result (λ cause. IsLedWhereLate me.old me.new (call.UpdateIf component expected value) cause) }
     {
         me.core.may_update(component)?;
-        let words = &self.table.shared;
+        let words = &self.table;
         match update(
             &mut me.core,
             component,
@@ -234,7 +252,7 @@ impl Memory {
         if component >= self.sizes.m() {
             return Err(Refused::Component);
         }
-        Ok(read(&self.table.shared, &mut me.badge, &me.core, component))
+        Ok(read(&self.table, &mut me.badge, &me.core, component))
     }
 
     /// Scans these components, in this order and with repeats: `into` has their values as they stood
@@ -263,17 +281,18 @@ impl Memory {
             });
         }
         me.core.may_scan(which)?;
-        scan(&self.table.shared, &mut me.badge, &mut me.core, which, into)
+        scan(&self.table, &mut me.badge, &mut me.core, which, into)
     }
 
-    /// Merges what two ports have observed. Takes three atomic steps.
+    /// Merges what two ports have observed. Takes three atomic steps. From then on the steps of both ports count for the
+    /// first one.
     pub fn meet(&self, first: &mut Port, second: &mut Port)
         requires { IsOf self.now first.old × IsOf self.now second.old }
         ensures same { IsOf self.now first.new × IsOf self.now second.new }
         ensures met { Meets first.old second.old first.new second.new }
         ensures lawful { MeetsLawfully self.now first.new second.new }
     {
-        let words = &self.table.shared;
+        let words = &self.table;
         let mut seat = take_seat(&mut first.badge);
         words.join_seat::<Gathers>(&mut seat, take_seat(&mut second.badge));
         words.load::<Looks>(&mut seat, 0);
@@ -296,9 +315,7 @@ impl Memory {
         let Memory { sizes, table } = self;
         let mut seat: PortSeat = port.into_seat();
         while let Some(port) = rest.pop() {
-            table
-                .shared
-                .join_seat::<Gathers>(&mut seat, port.into_seat());
+            table.join_seat::<Gathers>(&mut seat, port.into_seat());
         }
         let words = table.close_with(seat);
         let closed = closed_of(alloc, &words, sizes.m());

@@ -5,8 +5,8 @@ ghost use Rattle.partial_memory.specs.Rule.{IsBadgeOfOne, SeatedPort, one_in};
 ghost use Rattle.partial_memory.specs.Ports.{Knows, port_view};
 
 use crate::rule::{PortSeat, View};
-use atomic_table::Badge;
 use partial_core::Core;
+use partial_table::Badge;
 use std::marker::Model;
 use std::mem;
 
@@ -28,7 +28,7 @@ impl Model for Port {
 
     ghost Value = { PortView };
 
-    ghost view = { λ p. port_view p.badge.table_id (one_in p.badge.views) };
+    ghost view = { λ p. port_view p.badge.table_id p.badge.steps (one_in p.badge.views) };
 
     ghost invariant = { λ p. IsResting p.badge.views p.core p.number };
 }
@@ -62,7 +62,7 @@ impl Port {
     // Takes the seat of a port that makes no further call.
     pub(crate) fn into_seat(self) -> PortSeat
         ensures table { result.table_id ≡ self.memory.table }
-        ensures one { (x : SeatedPort) × (result.me ≡ (x ∷ [], [])) × (port_view self.memory.table x ≡ self) }
+        ensures one { (x : SeatedPort) × (result.me ≡ (x ∷ [], [])) × (port_view self.memory.table result.steps x ≡ self) }
     {
         let Port {
             badge,
@@ -80,6 +80,7 @@ pub fn take_seat(badge: &mut Badge<View>) -> PortSeat
     requires { IsBadgeOfOne badge.old.views }
     ensures table { result.table_id ≡ badge.old.table_id }
     ensures one { result.me ≡ (one_in badge.old.views ∷ [], []) }
+    ensures steps { result.steps ≡ badge.old.steps }
 {
     mem::replace(badge, Badge::blank()).into_seat()
 }

@@ -5,13 +5,13 @@ ghost use Rattle.partial_machine.specs.declared.stage.Reply.TheVariants as reply
 ghost use Rattle.partial_machine.specs.declared.stage.Stage.TheVariants.{ReadBegun};
 ghost use Rattle.partial_machine.specs.Machine.{at_stage};
 ghost use Rattle.partial_memory.specs.Rule.{IsBadgeOfOne, one_in};
-ghost use Rattle.partial_memory.specs.Inner.Steps.{Begins, CallEnded, IsAtRest};
+ghost use Rattle.partial_memory.specs.Inner.Steps.{Begins, CallEnded, HasCounted, IsAtRest};
 
 use crate::lines::{SeatLines, begin_read};
 use crate::port::take_seat;
 use crate::rule::{View, Words};
-use atomic_table::Badge;
 use partial_core::Core;
+use partial_table::Badge;
 use std::marker::Brand;
 
 /// Makes the steps of a read that isn't refused at once, and returns the value and the stamp of the component.
@@ -24,6 +24,7 @@ pub fn read(words: &Words, badge: &mut Badge<View>, core: &Core, component: u32)
     ensures one { IsBadgeOfOne badge.new.views }
     ensures ended { CallEnded (at_stage core.now (ReadBegun component)) (one_in badge.old.views)
         (reply.Read result.0 result.1) core.now (one_in badge.new.views) }
+    ensures counted { HasCounted badge.old.steps (one_in badge.new.views) badge.new.steps }
 {
     let mut seat = take_seat(badge);
     let stamp = begin_read::<Brand>(words, &mut seat, core, component);

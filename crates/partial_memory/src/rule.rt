@@ -1,7 +1,7 @@
 //! The rule of the table, and what its steps show a port.
 
-use atomic_table::{Join, Play, Seat, Shared, Split, TableRule};
 use partial_model::Opening;
+use partial_table::{Join, Play, Seat, Split, Table, TableRule};
 use partial_words::Sizes;
 use std::marker::{Brand, Model, PhantomData};
 
@@ -43,10 +43,10 @@ impl TableRule<(), View, About> for Lawful {
 }
 
 /// The words of a memory, shared by its threads.
-pub type Words = Shared<(), View, About, Lawful>;
+pub type Words = Table<View, About, Lawful>;
 
 /// A seat of the table. Whoever holds it may make steps for its ports.
-pub type PortSeat = Seat<(), View>;
+pub type PortSeat = Seat<View>;
 
 /// The machine whose step is made. Each call picks its own.
 pub trait Moment {
@@ -78,7 +78,7 @@ pub struct GoesOn;
 impl Play<(), View> for GoesOn {
     ghost use Rattle.partial_memory.specs.Rule.{goes_on};
 
-    ghost then = { goes_on };
+    ghost then = { λ _. goes_on };
 }
 
 /// A further step that is a store. It is answered with 0.
@@ -87,7 +87,7 @@ pub struct PutsOn;
 impl Play<(), View> for PutsOn {
     ghost use Rattle.partial_memory.specs.Rule.{goes_on};
 
-    ghost then = { λ s me _. goes_on s me 0 };
+    ghost then = { λ _ me _. goes_on me 0 };
 }
 
 /// A load by which all ports of the seat observe the whole history.
@@ -103,7 +103,7 @@ impl Play<(), View> for Looks {
 pub struct Deals;
 
 impl Split<View> for Deals {
-    ghost use Rattle.partial_memory.specs.Rule.{first_port, further_ports};
+    ghost use Rattle.partial_table.specs.Seats.{first_port, further_ports};
 
     ghost left = { further_ports };
 

@@ -4,15 +4,15 @@ ghost use Rattle.std.specs.Prelude.{◌≡◌, length, map, slice_index, IfOk, I
 ghost use Rattle.partial_machine.specs.Lines.{scan_asked};
 ghost use Rattle.partial_lines.specs.Replies.{scan_reply};
 ghost use Rattle.partial_memory.specs.Rule.{IsBadgeOfOne, IsOne, one_in, one_of};
-ghost use Rattle.partial_memory.specs.Inner.Steps.{Begins, IsAtRest, ScanEnded};
+ghost use Rattle.partial_memory.specs.Inner.Steps.{Begins, HasCounted, IsAtRest, ScanEnded};
 
 use crate::lines::{SeatLines, begin_scan};
 use crate::port::take_seat;
 use crate::rule::{PortSeat, View, Words};
-use atomic_table::Badge;
 use partial_core::Core;
 use partial_lines::Scanned;
 use partial_model::Refused;
+use partial_table::Badge;
 use std::marker::Brand;
 
 /// Makes the steps of a scan that isn't refused at once. `into` has the values of the positions then, as the
@@ -35,6 +35,7 @@ pub fn scan(
     ensures one { IsBadgeOfOne badge.new.views }
     ensures ended { ScanEnded core.old which.now (one_in badge.old.views) (scan_reply result) core.new
         (one_in badge.new.views) }
+    ensures counted { HasCounted badge.old.steps (one_in badge.new.views) badge.new.steps }
     ensures copied { IfOk result (λ _. into.new ≡ map (slice_index core.new.rows.values) which.now) }
     ensures unchanged { IfErr result (λ _. into.new ≡ into.old) }
 {
@@ -59,6 +60,7 @@ fn make_scan(
     ensures one { IsOne result.0.me }
     ensures ended { ScanEnded core.old which.now (one_of seat.me.0) (scan_reply result.1) core.new
         (one_of result.0.me.0) }
+    ensures counted { HasCounted seat.steps (one_of result.0.me.0) result.0.steps }
     ensures copied { IfOk result.1 (λ _. into.new ≡ map (slice_index core.new.rows.values) which.now) }
     ensures unchanged { IfErr result.1 (λ _. into.new ≡ into.old) }
 {

@@ -8,15 +8,15 @@ ghost use Rattle.partial_machine.specs.Sound.{IsSound};
 ghost use Rattle.partial_lines.specs.Lines.{set_made};
 ghost use Rattle.partial_memory.specs.Rule.{IsBadgeOfOne, IsOne, SeatedPort, one_in, one_of};
 ghost use Rattle.partial_memory.specs.Inner.Endings.{asked_change, ending_reply};
-ghost use Rattle.partial_memory.specs.Inner.Lines.{IsGoing, machine_of};
-ghost use Rattle.partial_memory.specs.Inner.Steps.{Begins, CallMade, CallEnded, IsAtRest};
+ghost use Rattle.partial_memory.specs.Inner.Lines.{CountsOn, IsGoing, machine_of};
+ghost use Rattle.partial_memory.specs.Inner.Steps.{Begins, CallMade, CallEnded, HasCounted, IsAtRest};
 
 use crate::lines::{SeatLines, begin_update, make};
 use crate::port::take_seat;
 use crate::rule::{PortSeat, View, Words};
-use atomic_table::Badge;
 use partial_core::{Change, Core};
 use partial_lines::{Exchanged, put};
+use partial_table::Badge;
 use partial_words::Step;
 use std::marker::Brand;
 
@@ -66,6 +66,7 @@ pub fn update(
     ensures one { IsBadgeOfOne badge.new.views }
     ensures ended { CallEnded (at_stage core.old (UpdateBegun (asked_change component expected value))) (one_in badge.old.views)
         (ending_reply (asked_change component expected value) result) core.new (one_in badge.new.views) }
+    ensures counted { HasCounted badge.old.steps (one_in badge.new.views) badge.new.steps }
 {
     let change = Change {
         component,
@@ -92,6 +93,7 @@ fn make_update(
     ensures one { IsOne result.0.me }
     ensures ended { CallEnded (at_stage core.old (UpdateBegun change)) (one_of seat.me.0)
         (ending_reply change result.1) core.new (one_of result.0.me.0) }
+    ensures counted { HasCounted seat.steps (one_of result.0.me.0) result.0.steps }
 {
     let old = begin_update::<Brand>(words, &mut seat, core, change);
     if change.expected.is_some_and(|expected| expected != old) {
@@ -117,6 +119,7 @@ fn replace(
     ensures one { IsOne result.0.me }
     ensures ended { (b : CoreState) (x : SeatedPort) → Begins b x → CallMade b x (machine_of seat.me) (one_of seat.me.0) →
         CallEnded b x (ending_reply change result.1) core.new (one_of result.0.me.0) }
+    ensures counted { CountsOn seat.steps (one_of seat.me.0) result.0.steps (one_of result.0.me.0) }
 {
     let mut lines = SeatLines { words, seat };
     let Ok(written) = put(&mut lines, core, change, old);

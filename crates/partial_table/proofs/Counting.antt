@@ -8,7 +8,7 @@ use Rattle.atomic_table.specs.Seated.{TableId}
 use Rattle.atomic_table.proofs.Lists.{at_map}
 use Rattle.partial_table.specs.declared.counted.Counted.{Counted}
 use Rattle.partial_table.specs.Counting.{counted, counts, uncounted, uncounted_me, plain_view}
-use Rattle.partial_table.specs.Views.{SeatView, TableView, seat_view, table_view}
+use Rattle.partial_table.specs.Views.{BadgeView, SeatView, TableView, badge_view, seat_view, table_view}
 
 map_set : {A B : Type 0} (f : A → B) (l : List A) (i : ℕ) (a : A) → map f (slice_set l i a) ≡ slice_set (map f l) i (f a)
 map_set f [] i a = refl
@@ -119,3 +119,12 @@ module _ {V K : Type 0} (holds : K → State (Unit {0}) V → Type 0) (z y : Tab
   told_end ws xs end =
       subst (λ (u : TableView K). Final (Seen (holds u.key) s.id s.me.0) ws xs) is_table
       (subst (λ (v : SeatView V). Final (Seen (holds key) v.id v.me.0) ws xs) is_seat (final_uncounted (holds key) id me.0 ws xs end))
+
+-- a badge whose seat contracts see has that seat alone
+one_view : {V : Type 0} (views : List (Counted V)) (v : V) → map plain_view views ≡ v ∷ [] → (c : Counted V) × (views ≡ c ∷ [])
+one_view [] v is = cc
+one_view (c ∷ []) v is = (c, refl)
+one_view (c ∷ d ∷ cs) v is = cc
+
+pub one_seat : {V : Type 0} (y : TableId) (views : List (Counted V)) (b : BadgeView V) → badge_view y views ≡ b → (v : V) × (b.views ≡ v ∷ []) → (c : Counted V) × (views ≡ c ∷ [])
+one_seat {V} y views b is_badge one = one_view views one.0 (ap (λ (u : BadgeView V). u.views) is_badge ∙ one.1)

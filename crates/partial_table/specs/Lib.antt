@@ -1,3 +1,4 @@
 pub mod Counting
+pub mod Seats
 pub mod Table
 pub mod Views

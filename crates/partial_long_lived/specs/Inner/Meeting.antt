@@ -1,11 +1,12 @@
 -- What two ports show each other that meet.
 use Rattle.std.specs.Prelude.{ℕ, ◌≡◌, ◌<◌, ◌≤◌, ◌⊎◌, List, [], ◌∷◌, length}
+use Rattle.partial_table.specs.Seats.{further_ports}
 use Rattle.partial_table.specs.Table.{Me}
 use Rattle.partial_model.specs.declared.history.Applied.{Applied}
 use Rattle.partial_model.specs.Notes.{Noted}
 use Rattle.partial_epochs.specs.Notes.{having_seen}
 use Rattle.partial_long_lived.specs.declared.rule.About.{About}
-use Rattle.partial_long_lived.specs.Rule.{Began, SeatedPort, one_of, further_ports}
+use Rattle.partial_long_lived.specs.Rule.{Began, SeatedPort, one_of}
 use Rattle.partial_long_lived.specs.Ports.{HasLawfulState, Knows, seen_in}
 use Rattle.partial_long_lived.specs.declared.stand.Stand.{Stand}
 use Rattle.partial_long_lived.specs.Inner.Calls.{HasCome}

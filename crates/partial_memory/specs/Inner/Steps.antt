@@ -1,6 +1,6 @@
 -- The steps that a call makes: how it begins, goes on and ends at its seat.
 use Rattle.std.specs.Prelude.{ℕ, ◌≡◌, ◌+◌, ◌||◌, List, length, Some}
-use Rattle.atomic_table.specs.Seated.{TableId}
+use Rattle.partial_table.specs.Table.{TableId}
 use Rattle.partial_words.specs.Layout.{IsLayout, total}
 use Rattle.partial_machine.specs.declared.stage.Reply.{Reply}
 use Rattle.partial_machine.specs.declared.stage.Stage.TheVariants.{Idle}
@@ -34,10 +34,13 @@ pub record Begins (b : CoreState) (x : SeatedPort) : Type 0 where
 pub record CallMade (b : CoreState) (x : SeatedPort) (c : CoreState) (y : SeatedPort) : Type 0 where
   pub about : y.about ≡ x.about
   pub made : Made x.about.sizes x.about.opening b x.part c y.part
-  pub steps : y.steps ≡ x.steps + length y.part.kept
   pub others : AreByOpened x.about y.part.seen
   pub pool : c.pool_spent ≡ (refuses_pool (reply_of c) || b.pool_spent)
   pub slots : c.slots_spent ≡ (refuses_slots (reply_of c) || b.slots_spent)
+
+-- the seat, which had made n steps before the call of the port y, has made m with those of the call
+abbrev pub HasCounted : ℕ → SeatedPort → ℕ → Type 0
+HasCounted n y m = m ≡ n + length y.part.kept
 
 -- The call has ended with that reply. The port goes on with an idle machine that has the marks of the call's, and claims as many words
 -- ahead.

@@ -1,4 +1,4 @@
-use Rattle.partial_memory.proofs.{Common.{◌<◌, Some, refl, sym, ap, subst, ◌∙◌, inl, Load, total, About}, Calls.runs_within, Steps.step_asked, Straight.first_leads}
+use Rattle.partial_memory.proofs.{Common.{◌<◌, Some, refl, sym, ap, subst, ◌∙◌, inl, Load, total, About}, Calls.runs_within, Steps.step_asked, Straight.{first_counts, first_leads}}
 use Rattle.partial_memory.proofs.lines.begin_load.Goals as goal
 
 pub load-requires : goal.load-requires
@@ -20,3 +20,8 @@ returns-clause-going g c =
       own = told.about ∙ c.requires.rest.own;
       under = (_, _, c.requires.begins, first_leads _ _ c.requires.begins (Load _) due _ _ told);
     }
+
+pub returns-clause-counted : goal.returns-clause-counted
+returns-clause-counted g c =
+    let due = c.requires.due ∙ ap (λ w. Some (Load w)) (sym c.component_word-word.ensures) in
+    first_counts _ _ c.requires.begins (Load _) due _ _ c.load.ensures.2.1 _ _ c.load.ensures.3

@@ -1,4 +1,4 @@
-use Rattle.partial_memory.proofs.{Common.{ℕ, ◌≡◌, ◌<◌, Option, Some, refl, sym, ap, subst, ◌∙◌, inl, Step, Add, Layout, pool_counter, total, step_of, About}, Calls.runs_within, Steps.step_asked, Straight.first_leads}
+use Rattle.partial_memory.proofs.{Common.{ℕ, ◌≡◌, ◌<◌, Option, Some, refl, sym, ap, subst, ◌∙◌, inl, Step, Add, Layout, pool_counter, total, step_of, About}, Calls.runs_within, Steps.step_asked, Straight.{first_counts, first_leads}}
 use Rattle.partial_memory.proofs.lines.begin_scan.Goals as goal
 
 claim_due : (due : Option Step) (z y : Layout) (word size n : ℕ) → due ≡ Some (Add (pool_counter z) n) → y ≡ z → word ≡ pool_counter y → size ≡ n → due ≡ Some (Add word size)
@@ -24,3 +24,8 @@ returns-clause-going g c =
       own = told.about ∙ c.requires.rest.own;
       under = (_, _, c.requires.begins, first_leads _ _ c.requires.begins (Add _ _) due _ _ told);
     }
+
+pub returns-clause-counted : goal.returns-clause-counted
+returns-clause-counted g c =
+    let due = claim_due _ _ _ _ _ _ (ap step_of c.requires.moment) c.sizes.ensures c.pool_counter-word.ensures c.announcement_size-size.ensures in
+    first_counts _ _ c.requires.begins (Add _ _) due _ _ c.fetch_add.ensures.2.1 _ _ c.fetch_add.ensures.3

@@ -1,4 +1,4 @@
-use Rattle.partial_memory.proofs.{Common.{Some, ap, ◌∙◌, Store, Exchange, Add}, Straight.{next_asked, next_going, next_leads}}
+use Rattle.partial_memory.proofs.{Common.{Some, ap, ◌∙◌, Store, Exchange, Add}, Straight.{next_asked, next_counts, next_going, next_leads}}
 use Rattle.partial_memory.proofs.lines.make.Goals as goal
 
 pub store-requires : goal.store-requires
@@ -36,3 +36,12 @@ returns-in-Add-clause-going c =
 
 pub returns-in-Add-clause-leads : goal.returns-in-Add-clause-leads
 returns-in-Add-clause-leads c = next_leads _ c.requires.going.under (Add _ _) (c.requires.due ∙ ap Some c.in-Add.is) _ _ c.fetch_add.ensures.2.1
+
+pub returns-in-Store-clause-counted : goal.returns-in-Store-clause-counted
+returns-in-Store-clause-counted c = next_counts _ c.requires.going.under (Store _ _) (c.requires.due ∙ ap Some c.in-Store.is) _ _ c.store.ensures.2.1 _ _ c.store.ensures.3
+
+pub returns-in-Exchange-clause-counted : goal.returns-in-Exchange-clause-counted
+returns-in-Exchange-clause-counted c = next_counts _ c.requires.going.under (Exchange _ _ _) (c.requires.due ∙ ap Some c.in-Exchange.is) _ _ c.compare_exchange.ensures.2.1 _ _ c.compare_exchange.ensures.3
+
+pub returns-in-Add-clause-counted : goal.returns-in-Add-clause-counted
+returns-in-Add-clause-counted c = next_counts _ c.requires.going.under (Add _ _) (c.requires.due ∙ ap Some c.in-Add.is) _ _ c.fetch_add.ensures.2.1 _ _ c.fetch_add.ensures.3

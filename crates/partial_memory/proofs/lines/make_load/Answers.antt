@@ -1,5 +1,5 @@
 use Rattle.std.proofs.Common.{rules, tests}
-use Rattle.partial_memory.proofs.{Common.Load, Straight.{next_asked, next_going, next_leads}}
+use Rattle.partial_memory.proofs.{Common.Load, Straight.{next_asked, next_counts, next_going, next_leads}}
 use Rattle.partial_memory.proofs.lines.make_load.Goals as goal
 
 pub load-requires : goal.load-requires
@@ -15,3 +15,6 @@ returns-clause-leads c = next_leads _ c.requires.going.under (Load _) c.requires
 
 pub returns-clause-machine : goal.returns-clause-machine
 returns-clause-machine c = search (tests, rules)
+
+pub returns-clause-counted : goal.returns-clause-counted
+returns-clause-counted c = next_counts _ c.requires.going.under (Load _) c.requires.due _ _ c.load.ensures.2.1 _ _ c.load.ensures.3

@@ -1,4 +1,4 @@
-use Rattle.partial_memory.proofs.Common.{◌≡◌, refl, sym, ap, subst, ReadBegun, CoreState, at_stage, SeatedPort, one_in, one_of, CallMade, CallEnded, machine_of, RestsLike, Reply}
+use Rattle.partial_memory.proofs.Common.{◌≡◌, ◌+◌, ◌∙◌, length, refl, sym, ap, subst, ReadBegun, CoreState, at_stage, SeatedPort, one_in, one_of, CallMade, CallEnded, machine_of, RestsLike, Reply}
 use Rattle.partial_memory.proofs.read.read.Goals as goal
 
 pub returns-clause-ended : goal.returns-clause-ended
@@ -22,4 +22,11 @@ returns-clause-ended c =
       sound = rests.sound;
     } in
     subst (λ (x : SeatedPort). CallEnded (at_stage core (ReadBegun c.args.component)) (one_in c.args.badge.now.views) (Reply.Read c.in-Ok.value c.begin_read-stamp.result) core x)
-    (sym (ap one_in c.into_badge.ensures.2)) ended
+    (sym (ap one_in c.into_badge.ensures.1)) ended
+
+pub returns-clause-counted : goal.returns-clause-counted
+returns-clause-counted c =
+    let first = c.begin_read-stamp.ensures.counted in
+    let before = c.take_seat-seat.ensures.steps in
+    let all = c.in-Ok.ensures.leads.2 c.args.badge.now.steps (first ∙ ap (λ n. n + length (one_of c.begin_read-stamp.new.seat.me.0).part.kept) before) in
+    c.into_badge.ensures.2 ∙ all ∙ ap (λ (x : SeatedPort). c.args.badge.now.steps + length x.part.kept) (sym (ap one_in c.into_badge.ensures.1))

@@ -17,3 +17,6 @@ returns-clause-ended c =
       asked = behind.asked;
       rows = behind.rows;
     }
+
+pub returns-clause-counted : goal.returns-clause-counted
+returns-clause-counted c = c.in-Ok.ensures.leads.2 _ c.begin_scan-at.ensures.counted

@@ -36,3 +36,9 @@ returns-clause-ended c b x begins made =
       idle = rests.idle;
       sound = rests.sound;
     }
+
+pub returns-in_default-clause-counted : goal.returns-in_default-clause-counted
+returns-in_default-clause-counted c = c.in-Ok.ensures.leads.2
+
+pub returns-clause-counted : goal.returns-clause-counted
+returns-clause-counted c n before = c.make-found.ensures.counted n (c.in-Ok.ensures.leads.2 n before)

@@ -1,4 +1,4 @@
-use Rattle.partial_long_lived.proofs.{Common.{rules, ◌≡◌, ap, sym, ◌∙◌, subst, List, arith, slots_items, Me, TableId, About, SeatedPort, IsShapeOf, MemoryView, port_view}, Meets.gathers, Closes.{Ends, closes, closes_lawfully, ends, have_shape, of_last, taken_more, taken_none}}
+use Rattle.partial_long_lived.proofs.{Common.{IsOf, of_last, rules, ◌≡◌, ap, sym, ◌∙◌, subst, List, arith, slots_items, Me, TableId, About, SeatedPort, IsShapeOf, MemoryView, port_view}, Meets.gathers, Closes.{Ends, closes, closes_lawfully, ends, have_shape, taken_more, taken_none}}
 use Rattle.partial_long_lived.proofs.long_lived.LongLived.close.Goals as goal
 
 pub loop-port-init : goal.loop-port-init
@@ -13,7 +13,7 @@ loop-port-init c =
 
 pub join_seat-requires : goal.join_seat-requires
 join_seat-requires c =
-    let of = of_last c.args.self _ _ _ c.loop-port.invariant.left c.in-Some.ensures.items in
+    let of = of_last (IsOf c.args.self) _ _ _ c.loop-port.invariant.left c.in-Some.ensures.items in
     let one = c.into_seat.ensures.one in
     let table = c.into_seat.ensures.table ∙ ap (λ (m : MemoryView). m.table) (of.1 ∙ sym c.self.view_is) in
     let words = c.self.invariant.1 in
@@ -21,7 +21,7 @@ join_seat-requires c =
 
 pub loop-port-preserved : goal.loop-port-preserved
 loop-port-preserved c =
-    let of = of_last c.args.self _ _ _ c.loop-port.invariant.left c.in-Some.ensures.items in
+    let of = of_last (IsOf c.args.self) _ _ _ c.loop-port.invariant.left c.in-Some.ensures.items in
     let one = c.into_seat.ensures.one in
     let join = ap (λ (m : Me (Unit {0}) (List SeatedPort)). m.0) c.join_seat.ensures.2 in
     record {

@@ -27,14 +27,14 @@ returns-clause-answered c =
     let sizes : c.me.inside.core.sizes ≡ c.self.inside.sizes = search rules in
     let inside : c.args.component < c.self.inside.sizes.m = search rules in
     let below : c.args.component < c.me.inside.core.sizes.m = subst (λ (z : Layout). c.args.component < z.m) (sym sizes) inside in
-    (read_ended _ _ _ c.me.invariant _ _ c.read.ensures.table _ c.me.view_is _ _ _ _ c.read.ensures.ended c.args.component below refl _ refl).0
+    (read_ended _ _ _ c.me.invariant _ _ c.read.ensures.table _ _ _ c.me.view_is _ _ _ _ c.read.ensures.ended c.read.ensures.counted c.args.component below refl _ refl).0
 
 pub returns-clause-led : goal.returns-clause-led
 returns-clause-led c =
     let sizes : c.me.inside.core.sizes ≡ c.self.inside.sizes = search rules in
     let inside : c.args.component < c.self.inside.sizes.m = search rules in
     let below : c.args.component < c.me.inside.core.sizes.m = subst (λ (z : Layout). c.args.component < z.m) (sym sizes) inside in
-    (read_ended _ _ _ c.me.invariant _ _ c.read.ensures.table _ c.me.view_is _ _ _ _ c.read.ensures.ended c.args.component below refl _ refl).1
+    (read_ended _ _ _ c.me.invariant _ _ c.read.ensures.table _ _ _ c.me.view_is _ _ _ _ c.read.ensures.ended c.read.ensures.counted c.args.component below refl _ refl).1
 
 pub returns-clause-same : goal.returns-clause-same
-returns-clause-same c = same_memory _ _ (one_in c.me.inside.badge.views) (one_in c.read.new.badge.views) _ _ c.me.view_is c.requires c.read.ensures.table c.read.ensures.ended.made.about
+returns-clause-same c = same_memory _ _ _ (one_in c.me.inside.badge.views) (one_in c.read.new.badge.views) _ _ c.me.view_is c.requires c.read.ensures.table c.read.ensures.ended.made.about

@@ -31,7 +31,7 @@ returns-clause-answered c =
     let sizes : c.me.inside.core.sizes ≡ c.args.self.now.about.sizes = search rules in
     let few : length c.args.which.now ≤ c.me.inside.core.sizes.m = subst (λ (z : Layout). length c.args.which.now ≤ z.m) (sym sizes) c.requires.lengths.1 in
     let ok = c.in_ok-may_scan.ensures.ok in
-    let told = scan_ended _ _ _ c.me.invariant _ _ c.scan.ensures.table _ c.me.view_is _ _ _ _ c.scan.ensures.ended.ended _ few some ok (asked_begins c.me.inside.core _ some) in
+    let told = scan_ended _ _ _ c.me.invariant _ _ c.scan.ensures.table _ _ _ c.me.view_is _ _ _ _ c.scan.ensures.ended.ended c.scan.ensures.counted _ few some ok (asked_begins c.me.inside.core _ some) in
     let ended = c.scan.ensures.ended in
     (scan_answered _ _ _ _ ended.ended.machine _ c.scan.result some ended.asked ended.rows c.scan.ensures.copied told).answered
 
@@ -41,7 +41,7 @@ returns-clause-led c =
     let sizes : c.me.inside.core.sizes ≡ c.args.self.now.about.sizes = search rules in
     let few : length c.args.which.now ≤ c.me.inside.core.sizes.m = subst (λ (z : Layout). length c.args.which.now ≤ z.m) (sym sizes) c.requires.lengths.1 in
     let ok = c.in_ok-may_scan.ensures.ok in
-    let told = scan_ended _ _ _ c.me.invariant _ _ c.scan.ensures.table _ c.me.view_is _ _ _ _ c.scan.ensures.ended.ended _ few some ok (asked_begins c.me.inside.core _ some) in
+    let told = scan_ended _ _ _ c.me.invariant _ _ c.scan.ensures.table _ _ _ c.me.view_is _ _ _ _ c.scan.ensures.ended.ended c.scan.ensures.counted _ few some ok (asked_begins c.me.inside.core _ some) in
     let ended = c.scan.ensures.ended in
     (scan_answered _ _ _ _ ended.ended.machine _ c.scan.result some ended.asked ended.rows c.scan.ensures.copied told).led
 
@@ -51,7 +51,7 @@ returns-clause-refused c =
     let sizes : c.me.inside.core.sizes ≡ c.args.self.now.about.sizes = search rules in
     let few : length c.args.which.now ≤ c.me.inside.core.sizes.m = subst (λ (z : Layout). length c.args.which.now ≤ z.m) (sym sizes) c.requires.lengths.1 in
     let ok = c.in_ok-may_scan.ensures.ok in
-    let told = scan_ended _ _ _ c.me.invariant _ _ c.scan.ensures.table _ c.me.view_is _ _ _ _ c.scan.ensures.ended.ended _ few some ok (asked_begins c.me.inside.core _ some) in
+    let told = scan_ended _ _ _ c.me.invariant _ _ c.scan.ensures.table _ _ _ c.me.view_is _ _ _ _ c.scan.ensures.ended.ended c.scan.ensures.counted _ few some ok (asked_begins c.me.inside.core _ some) in
     let ended = c.scan.ensures.ended in
     (scan_answered _ _ _ _ ended.ended.machine _ c.scan.result some ended.asked ended.rows c.scan.ensures.copied told).refused
 
@@ -61,12 +61,12 @@ returns-clause-led_to_refusal c =
     let sizes : c.me.inside.core.sizes ≡ c.args.self.now.about.sizes = search rules in
     let few : length c.args.which.now ≤ c.me.inside.core.sizes.m = subst (λ (z : Layout). length c.args.which.now ≤ z.m) (sym sizes) c.requires.lengths.1 in
     let ok = c.in_ok-may_scan.ensures.ok in
-    let told = scan_ended _ _ _ c.me.invariant _ _ c.scan.ensures.table _ c.me.view_is _ _ _ _ c.scan.ensures.ended.ended _ few some ok (asked_begins c.me.inside.core _ some) in
+    let told = scan_ended _ _ _ c.me.invariant _ _ c.scan.ensures.table _ _ _ c.me.view_is _ _ _ _ c.scan.ensures.ended.ended c.scan.ensures.counted _ few some ok (asked_begins c.me.inside.core _ some) in
     let ended = c.scan.ensures.ended in
     (scan_answered _ _ _ _ ended.ended.machine _ c.scan.result some ended.asked ended.rows c.scan.ensures.copied told).led_to_refusal
 
 pub returns-clause-same : goal.returns-clause-same
-returns-clause-same c = same_memory _ _ (one_in c.me.inside.badge.views) (one_in c.scan.new.badge.views) _ _ c.me.view_is c.requires.own c.scan.ensures.table c.scan.ensures.ended.ended.made.about
+returns-clause-same c = same_memory _ _ _ (one_in c.me.inside.badge.views) (one_in c.scan.new.badge.views) _ _ c.me.view_is c.requires.own c.scan.ensures.table c.scan.ensures.ended.ended.made.about
 
 pub returns-in_err-may_scan-clause-refused : goal.returns-in_err-may_scan-clause-refused
 returns-in_err-may_scan-clause-refused c =

@@ -22,7 +22,7 @@ invariant_of-me c =
 pub returns-clause-answered : goal.returns-clause-answered
 returns-clause-answered c =
     let ok = c.in_ok-may_update.ensures.ok in
-    let told = update_if_ended _ _ _ c.me.invariant _ _ c.update.ensures.table _ c.me.view_is _ _ _ _ c.update.ensures.ended c.args.component c.args.expected c.args.value ok refl in
+    let told = update_if_ended _ _ _ c.me.invariant _ _ c.update.ensures.table _ _ _ c.me.view_is _ _ _ _ c.update.ensures.ended c.update.ensures.counted c.args.component c.args.expected c.args.value ok refl in
     elim c.match-update.branch [
       | in-Applied w ↦ ok_ok _ _ _ w.result-is (told (Reply.Applied _) (ap (ending_reply (asked_change c.args.component (Some c.args.expected) c.args.value)) w.in-Applied.is)).0
       | in-Overtaken w ↦ ok_ok _ _ _ w.result-is (told (Reply.Changed _) (ap (ending_reply (asked_change c.args.component (Some c.args.expected) c.args.value)) w.in-Overtaken.is)).0
@@ -32,7 +32,7 @@ returns-clause-answered c =
 pub returns-clause-led : goal.returns-clause-led
 returns-clause-led c =
     let ok = c.in_ok-may_update.ensures.ok in
-    let told = update_if_ended _ _ _ c.me.invariant _ _ c.update.ensures.table _ c.me.view_is _ _ _ _ c.update.ensures.ended c.args.component c.args.expected c.args.value ok refl in
+    let told = update_if_ended _ _ _ c.me.invariant _ _ c.update.ensures.table _ _ _ c.me.view_is _ _ _ _ c.update.ensures.ended c.update.ensures.counted c.args.component c.args.expected c.args.value ok refl in
     elim c.match-update.branch [
       | in-Applied w ↦ ok_ok _ _ _ w.result-is (told (Reply.Applied _) (ap (ending_reply (asked_change c.args.component (Some c.args.expected) c.args.value)) w.in-Applied.is)).1
       | in-Overtaken w ↦ ok_ok _ _ _ w.result-is (told (Reply.Changed _) (ap (ending_reply (asked_change c.args.component (Some c.args.expected) c.args.value)) w.in-Overtaken.is)).1
@@ -42,7 +42,7 @@ returns-clause-led c =
 pub returns-clause-refused : goal.returns-clause-refused
 returns-clause-refused c =
     let ok = c.in_ok-may_update.ensures.ok in
-    let told = update_if_ended _ _ _ c.me.invariant _ _ c.update.ensures.table _ c.me.view_is _ _ _ _ c.update.ensures.ended c.args.component c.args.expected c.args.value ok refl in
+    let told = update_if_ended _ _ _ c.me.invariant _ _ c.update.ensures.table _ _ _ c.me.view_is _ _ _ _ c.update.ensures.ended c.update.ensures.counted c.args.component c.args.expected c.args.value ok refl in
     elim c.match-update.branch [
       | in-Applied w ↦ ok_err _ _ _ w.result-is
       | in-Overtaken w ↦ ok_err _ _ _ w.result-is
@@ -52,7 +52,7 @@ returns-clause-refused c =
 pub returns-clause-led_to_refusal : goal.returns-clause-led_to_refusal
 returns-clause-led_to_refusal c =
     let ok = c.in_ok-may_update.ensures.ok in
-    let told = update_if_ended _ _ _ c.me.invariant _ _ c.update.ensures.table _ c.me.view_is _ _ _ _ c.update.ensures.ended c.args.component c.args.expected c.args.value ok refl in
+    let told = update_if_ended _ _ _ c.me.invariant _ _ c.update.ensures.table _ _ _ c.me.view_is _ _ _ _ c.update.ensures.ended c.update.ensures.counted c.args.component c.args.expected c.args.value ok refl in
     elim c.match-update.branch [
       | in-Applied w ↦ ok_err _ _ _ w.result-is
       | in-Overtaken w ↦ ok_err _ _ _ w.result-is
@@ -76,4 +76,4 @@ returns-in_err-may_update-clause-led_to_refusal c =
     err_err _ _ _ p.1 (at_once _ _ _ _ (seen ∙ ap Some (sym p.2)))
 
 pub returns-clause-same : goal.returns-clause-same
-returns-clause-same c = same_memory _ _ (one_in c.me.inside.badge.views) (one_in c.update.new.badge.views) _ _ c.me.view_is c.requires c.update.ensures.table c.update.ensures.ended.made.about
+returns-clause-same c = same_memory _ _ _ (one_in c.me.inside.badge.views) (one_in c.update.new.badge.views) _ _ c.me.view_is c.requires c.update.ensures.table c.update.ensures.ended.made.about
