@@ -1,5 +1,5 @@
 -- What an answer keeps: the machine and its buffers go together, and the steps left fall.
-use Rattle.partial_active.proofs.{Common.{ℕ, ◌≡◌, ◌+◌, ◌-◌, ◌<◌, ◌≤◌, min, true, false, nat_eq, ◌==◌, nat_lt, [], ◌∷◌, ◌++◌, length, if◌then◌else◌, IsSome, slice_index, inl, inr, refl, sym, ap, subst, arith, false≢true, cond_both, ltb-false, eqb-true, eqb-false, length_push, IsNormal, Layout, IsLayout, list_end, list_base, pool_base, pool_end, list_block, AreFoundFor, LiesBehind, with_index, Stage, Head, ListLen, ListLow, ListHigh, Counter, Slot, Len, Index, Claim, Write, Publish, Done, SetPair, set_step_at, set_step_due, advance_set_at, come_to, note_slot, in_stage, set_left_at, set_left, walk_left, EndsBelow, IsListHead, IsListLen, IsNextLow, IsSlotWord, IsAnnouncedLen, IsListClaim, is_possible_at, IsPossibleInSet, HasRead, IsWalking, IsAtSlot, set_goes_at, SetGoesTogether, next_word, indices_word, intervals_word, mul-le-mul_right}, Extended.{normal-extended, below-extended, normal_push, below_push}, Walk.{come_to_goes, come_to_left}}
+use Rattle.partial_active.proofs.{Common.{ℕ, ◌≡◌, ◌+◌, ◌-◌, ◌<◌, ◌≤◌, min, true, false, nat_eq, ◌==◌, nat_lt, [], ◌∷◌, ◌++◌, length, if◌then◌else◌, IsSome, slice_index, inl, inr, refl, sym, ap, subst, arith, false≢true, cond_both, ltb-false, eqb-true, eqb-false, length_push, IsNormal, Layout, IsLayout, list_end, list_base, pool_base, pool_end, list_block, AreFoundFor, LiesAfter, with_index, Stage, Head, ListLen, ListLow, ListHigh, Counter, Slot, Len, Index, Claim, Write, Publish, Done, SetPair, set_step_at, set_step_due, advance_set_at, come_to, note_slot, in_stage, set_left_at, set_left, walk_left, EndsBelow, IsListHead, IsListLen, IsNextLow, IsSlotWord, IsAnnouncedLen, IsListClaim, is_possible_at, IsPossibleInSet, HasRead, IsWalking, IsAtSlot, set_goes_at, SetGoesTogether, next_word, indices_word, intervals_word, mul-le-mul_right}, Extended.{normal-extended, below-extended, normal_push, below_push}, Walk.{come_to_goes, come_to_left}}
 
 -- the empty list
 normal_nil : IsNormal []
@@ -46,7 +46,7 @@ walk_next p slot here = record {
 }
 
 -- a slot that is noted lies after the next list
-pub slot_behind : (s : Layout) (p : SetPair) (slot : ℕ) → IsLayout s → p.0.sizes ≡ s → IsAtSlot p slot → LiesBehind p.1.next slot slot
+pub slot_behind : (s : Layout) (p : SetPair) (slot : ℕ) → IsLayout s → p.0.sizes ≡ s → IsAtSlot p slot → LiesAfter p.1.next slot slot
 slot_behind s p slot layout same here =
     let slots : p.0.sizes.slots ≡ s.slots = ap (λ (l : Layout). l.slots) same in
     record {

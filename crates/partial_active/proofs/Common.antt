@@ -12,4 +12,4 @@ pub use Rattle.partial_words.specs.{Announcement.{announcement_block, announced_
 pub use Rattle.partial_words.proofs.{BlockLemmas.{announcement_reads_back, list_reads_back}, RecordLemmas.length-pairs}
 pub use Rattle.partial_active.specs.declared.get_set.Stage.{Stage}
 pub use Rattle.partial_active.specs.declared.get_set.Stage.TheVariants.{Head, ListLen, ListLow, ListHigh, Counter, Slot, Len, Index, Claim, Write, Publish, Done}
-pub use Rattle.partial_active.specs.{ActiveSet.{GetSetsMakeFewSteps, OrderlyAnswersArePossible, Announcement, FindsAnnouncement, Names, FindsActiveSet, GetSetsFind, with_all, each_once, AreRising, AreInOrder, GetSetsFindInOrder}, Found.{Buffers, AreFoundFor, LiesBehind, begins_at, extended_list, touches, last_place}, GetSet.{SetPair, fresh_set, set_step_at, set_step_due, advance_set, set_left, advance_set_at, come_to, note_slot, in_stage, set_left_at, walk_left, after_walk, at_slot, pass_interval, next_words, publish_left, GetSetState}, GetSetAnswers.{set_goes_at, IsPossibleInSet, SetGoesTogether, EndsBelow, IsListHead, IsListLen, IsNextLow, IsSlotWord, IsAnnouncedLen, IsListClaim, is_possible_at, HasRead, IsWalking, IsAtSlot}, IndexSet.{with_index, AreIndices, has_index, IsMarked, IndexList}, Knowledge.{Facts, knows_by, HasFirst, AreVacated, HasEach, walks, has_found, KnowsBy, HasReadSo}, Making.IsAt, Moments.{OnEach, AtSome, words_behind, own_moments, AtSomeStep, answered_from, IsOrderlyEvent, AreOrderly, IsOrderlyRun, MakesOwn}, Orderly.{Orderly, slot_at, IsAnnouncement, IsVacatedList, head_at, Publishes}}
+pub use Rattle.partial_active.specs.{ActiveSet.{GetSetsMakeFewSteps, OrderlyAnswersArePossible, Announcement, FindsAnnouncement, Names, FindsActiveSet, GetSetsFind, with_all, each_once, AreRising, AreInOrder, GetSetsFindInOrder}, Found.{Buffers, AreFoundFor, LiesAfter, begins_at, extended_list, touches, last_place}, GetSet.{SetPair, fresh_set, set_step_at, set_step_due, advance_set, set_left, advance_set_at, come_to, note_slot, in_stage, set_left_at, walk_left, after_walk, at_slot, pass_interval, next_words, publish_left, GetSetState}, GetSetAnswers.{set_goes_at, IsPossibleInSet, SetGoesTogether, EndsBelow, IsListHead, IsListLen, IsNextLow, IsSlotWord, IsAnnouncedLen, IsListClaim, is_possible_at, HasRead, IsWalking, IsAtSlot}, IndexSet.{with_index, AreIndices, has_index, IsMarked, IndexList}, Knowledge.{Facts, knows_by, HasFirst, AreVacated, HasEach, walks, has_found, KnowsBy, HasReadSo}, Making.IsAt, Moments.{OnEach, AtSome, words_behind, own_moments, AtSomeStep, answered_from, IsOrderlyEvent, AreOrderly, IsOrderlyRun, MakesOwn}, Orderly.{Orderly, slot_at, IsAnnouncement, IsVacatedList, head_at, Publishes}}

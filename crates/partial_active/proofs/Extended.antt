@@ -1,5 +1,5 @@
 -- The list that a walk makes: it stays a normal form, and gains the numbers that were put after it.
-use Rattle.partial_active.proofs.Common.{ℕ, zero, suc, ◌≡◌, ◌+◌, ◌-◌, ◌*◌, ◌<◌, ◌≤◌, ◌⊎◌, true, false, ◌==◌, nat_lt, [], ◌∷◌, ◌++◌, length, slice_set, inl, inr, refl, sym, ap, arith, cases_eq, cases_lt, cond_both, and_parts, and_cases, ltb-true, ltb-false, eqb-true, eqb-false, length_push, get_or_append_left, get_or_push, length-set, Ranges, lowest, highest, Holds, IsNormal, GoesOn, extended_list, touches, last_place, LiesBehind, EndsBelow}
+use Rattle.partial_active.proofs.Common.{ℕ, zero, suc, ◌≡◌, ◌+◌, ◌-◌, ◌*◌, ◌<◌, ◌≤◌, ◌⊎◌, true, false, ◌==◌, nat_lt, [], ◌∷◌, ◌++◌, length, slice_set, inl, inr, refl, sym, ap, arith, cases_eq, cases_lt, cond_both, and_parts, and_cases, ltb-true, ltb-false, eqb-true, eqb-false, length_push, get_or_append_left, get_or_push, length-set, Ranges, lowest, highest, Holds, IsNormal, GoesOn, extended_list, touches, last_place, LiesAfter, EndsBelow}
 use Rattle.partial_intervals.proofs.Edits.{normal_set, highest_here, highest_other, lowest_here, lowest_other}
 
 -- intervals that lie apart take two numbers each, but for the last
@@ -61,7 +61,7 @@ module _ (list : Ranges) (lo hi : ℕ) where
       let both = and_parts (nat_lt 0 (length list)) ((highest list (last_place list) + 1) == lo) e in
       (ltb-true 0 (length list) both.0, eqb-true (highest list (last_place list) + 1) lo both.1)
 
-  apart_from : IsNormal list → LiesBehind list lo hi → touches list lo ≡ false → GoesOn list lo hi
+  apart_from : IsNormal list → LiesAfter list lo hi → touches list lo ≡ false → GoesOn list lo hi
   apart_from normal behind e = record {
     closed = behind.closed;
     bounded = behind.bounded;
@@ -77,7 +77,7 @@ module _ (list : Ranges) (lo hi : ℕ) where
     ];
   }
 
-module _ (list : Ranges) (lo hi : ℕ) (normal : IsNormal list) (behind : LiesBehind list lo hi) where
+module _ (list : Ranges) (lo hi : ℕ) (normal : IsNormal list) (behind : LiesAfter list lo hi) where
   pub normal-extended : IsNormal (extended_list list lo hi)
   normal-extended = cond_both (touches list lo) (slice_set list (last_place list) (lowest list (last_place list), hi)) (list ++ (lo, hi) ∷ []) (λ l. IsNormal l)
       (λ e.
@@ -134,7 +134,7 @@ held_extended list lo hi normal x = cond_both (touches list lo) (slice_set list 
     ])
 
 -- and it holds what the list held and the new numbers
-pub holds_extended : (list : Ranges) (lo hi : ℕ) → IsNormal list → LiesBehind list lo hi → (x : ℕ) → Holds list x ⊎ ((lo ≤ x) × (x ≤ hi)) → Holds (extended_list list lo hi) x
+pub holds_extended : (list : Ranges) (lo hi : ℕ) → IsNormal list → LiesAfter list lo hi → (x : ℕ) → Holds list x ⊎ ((lo ≤ x) × (x ≤ hi)) → Holds (extended_list list lo hi) x
 holds_extended list lo hi normal behind x = cond_both (touches list lo) (slice_set list (last_place list) (lowest list (last_place list), hi)) (list ++ (lo, hi) ∷ [])
     (λ l. Holds list x ⊎ ((lo ≤ x) × (x ≤ hi)) → Holds l x)
     (λ e.

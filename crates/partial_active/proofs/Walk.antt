@@ -1,5 +1,5 @@
 -- The walk along the slots: the machine and its buffers go on together, and the steps left fall.
-use Rattle.partial_active.proofs.{Common.{ℕ, ◌≡◌, ◌+◌, ◌-◌, ◌<◌, ◌≤◌, true, false, ◌&&◌, not, ◌==◌, nat_lt, length, inl, inr, refl, arith, cases_eq, cond_both, and_parts, and_cases, ltb-true, ltb-false, eqb-true, eqb-false, lowest, highest, Layout, AreFoundFor, begins_at, LiesBehind, Slot, Claim, Done, SetPair, after_walk, at_slot, come_to, pass_interval, next_words, set_left, walk_left, publish_left, EndsBelow, SetGoesTogether, IsWalking, mul-le-mul_right}, Extended.{length_normal, normal-extended, below-extended}}
+use Rattle.partial_active.proofs.{Common.{ℕ, ◌≡◌, ◌+◌, ◌-◌, ◌<◌, ◌≤◌, true, false, ◌&&◌, not, ◌==◌, nat_lt, length, inl, inr, refl, arith, cases_eq, cond_both, and_parts, and_cases, ltb-true, ltb-false, eqb-true, eqb-false, lowest, highest, Layout, AreFoundFor, begins_at, LiesAfter, Slot, Claim, Done, SetPair, after_walk, at_slot, come_to, pass_interval, next_words, set_left, walk_left, publish_left, EndsBelow, SetGoesTogether, IsWalking, mul-le-mul_right}, Extended.{length_normal, normal-extended, below-extended}}
 
 -- fewer slots, fewer steps
 pub walk_left_mono : (s : Layout) (a b : ℕ) → a ≤ b → walk_left s b ≤ walk_left s a
@@ -23,7 +23,7 @@ module _ (p : SetPair) (slot : ℕ) (walking : IsWalking p slot) where
       (ltb-true p.0.passed (length p.1.read) both.0, eqb-true (lowest p.1.read p.0.passed) slot both.1)
 
   -- that interval lies after the next list
-  pub interval_behind : begins_at p.1.read p.0.passed slot ≡ true → LiesBehind p.1.next (lowest p.1.read p.0.passed) (highest p.1.read p.0.passed)
+  pub interval_behind : begins_at p.1.read p.0.passed slot ≡ true → LiesAfter p.1.next (lowest p.1.read p.0.passed) (highest p.1.read p.0.passed)
   interval_behind e =
       let b = begun e in
       record {

@@ -34,7 +34,7 @@ extended_list list lo hi =
     if touches list lo then slice_set list (last_place list) (lowest list (last_place list), hi) else list ++ (lo, hi) ∷ []
 
 -- the numbers from lo to hi lie after the list
-pub record LiesBehind (list : Ranges) (lo hi : ℕ) : Type 0 where
+pub record LiesAfter (list : Ranges) (lo hi : ℕ) : Type 0 where
   pub closed : lo ≤ hi
   pub bounded : hi < 4294967295
   pub beyond : (k : ℕ) → k < length list → highest list k < lo

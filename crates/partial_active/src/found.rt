@@ -4,7 +4,7 @@ ghost use Rattle.std.specs.Prelude.{◌≡◌, ◌+◌, ◌/◌, ◌<◌, ◌≤
 ghost use Rattle.partial_intervals.specs.Intervals.{GoesOn, IsNormal, lowest, highest};
 ghost use Rattle.partial_words.specs.VacatedList.{list_block};
 ghost use Rattle.partial_active.specs.IndexSet.{with_index};
-ghost use Rattle.partial_active.specs.Found.{AreFoundFor, begins_at, extended_list, LiesBehind};
+ghost use Rattle.partial_active.specs.Found.{AreFoundFor, begins_at, extended_list, LiesAfter};
 ghost use Rattle.partial_active.specs.GetSetAnswers.{EndsBelow};
 
 use crate::index_set::IndexSet;
@@ -100,7 +100,7 @@ impl Found {
     #[inline(always)]
     pub(crate) fn note(&mut self, lo: u32, hi: u32)
         requires room { length self.old.next < self.old.room }
-        requires last { LiesBehind self.old.next lo hi }
+        requires last { LiesAfter self.old.next lo hi }
         ensures { self.new ≡ record self.old { next = extended_list self.old.next lo hi } }
     {
         let count = self.next.len();

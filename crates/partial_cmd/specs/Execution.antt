@@ -89,7 +89,7 @@ abbrev pub PlansHaveOneAnswer : Type 0
 PlansHaveOneAnswer = (v : Verb) (bytes a b : List ℕ) → v ≢ Verb.Run → IsAnswer v (Some bytes) a → IsAnswer v (Some bytes) b → a ≡ b
 
 -- the fault isn't one of the plans
-abbrev pub IsBehindReading : Fault → Type 0
-IsBehindReading (Fault.Plan e) = ⊥
-IsBehindReading Fault.TooSmall = ⊥
-IsBehindReading _ = Unit {0}
+abbrev pub IsAfterReading : Fault → Type 0
+IsAfterReading (Fault.Plan e) = ⊥
+IsAfterReading Fault.TooSmall = ⊥
+IsAfterReading _ = Unit {0}

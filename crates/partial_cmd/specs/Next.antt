@@ -11,7 +11,7 @@ use Rattle.partial_text.specs.ReportText.{report_text}
 use Rattle.partial_memory.specs.Reopening.{Continues, extended_values}
 use Rattle.partial_cmd.specs.declared.command.Verdict.{Verdict}
 use Rattle.partial_cmd.specs.declared.fault.Fault.{Fault}
-use Rattle.partial_cmd.specs.Execution.{IsBehindReading, IsTextOf}
+use Rattle.partial_cmd.specs.Execution.{IsAfterReading, IsTextOf}
 use Rattle.partial_cmd.specs.Reports.{IsReportFrom, IsReportOf, run_opening}
 
 -- what the components hold as a run of the second plan begins: the values that the first one left, and zeros for added ones
@@ -44,7 +44,7 @@ WritesReportsPart text next before after =
 -- the result of two plans that are read: 13 exactly when the second has fewer components, and no fault of reading
 abbrev pub AreRun : Result Verdict Fault → PlanView → PlanView → Type 0
 AreRun (Err Fault.TooSmall) p q = q.sizes.m < p.sizes.m
-AreRun (Err e) p q = IsBehindReading e × (p.sizes.m ≤ q.sizes.m)
+AreRun (Err e) p q = IsAfterReading e × (p.sizes.m ≤ q.sizes.m)
 AreRun (Ok v) p q = p.sizes.m ≤ q.sizes.m
 
 -- Each plan is refused as judging its text says, the first one first.

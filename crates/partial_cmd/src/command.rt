@@ -3,7 +3,7 @@
 ghost use Rattle.std.specs.Prelude.{ℕ, ◌≡◌, ◌↔◌, ◌≢◌, List, true, false, take, OnOk, IfOk, IfErr, IfSome, IsErrOf};
 ghost use Rattle.std.specs.Io.KnownBytes.{Appends};
 ghost use Rattle.partial_text.specs.Judging.{judged_plan};
-ghost use Rattle.partial_cmd.specs.Execution.{VerbWrites, IsBehindReading, IsJudged, WritesOutcome, WritesPart, reader_fault, verdict_of, writer_fault};
+ghost use Rattle.partial_cmd.specs.Execution.{VerbWrites, IsAfterReading, IsJudged, WritesOutcome, WritesPart, reader_fault, verdict_of, writer_fault};
 
 use crate::fault::Fault;
 use crate::workers::run_workers;
@@ -94,7 +94,7 @@ fn write_answer<H: Threads + Wait + Sync, W: Write>(
         × Appends (W.contents out.old.inner) (W.contents out.new.inner) (take n answer) }
     ensures fault { IsErrOf result writer_fault ↔ (out.new.failed ≡ true) }
     ensures unwritten { IfErr result (λ fault. fault ≢ writer_fault → out.new ≡ out.old) }
-    ensures behind { IfErr result IsBehindReading }
+    ensures behind { IfErr result IsAfterReading }
 {
     match verb {
         Verb::Replay => {

@@ -1,5 +1,5 @@
 -- The one law of steps, over all stages, and how a call begins.
-use Rattle.partial_core.proofs.{Common.{ℕ, ◌≡◌, ◌<◌, ◌≤◌, ◌++◌, ◌⊎◌, Bool, true, false, if◌then◌else◌, Some, None, List, [], ◌∷◌, length, take, slice_index, refl, sym, ap, subst, ◌∙◌, inl, inr, arith, IfSome, false≢true, append-nil, take_all, Applied, Opening, LegalNotes, seen_by, places_by, Step, Add, Layout, IsLayout, pool_counter, list_base, pool_end, total, announcement_size, answer_of, words_after, Change, Stage, CoreState, lists_spent, advance, step_at, step_of, reply_of, is_begun, is_at_rest, IsPossible, IsBehind, size_few, answers_lead_on, Holding, unpublished, without_block, IsDue, IsLoaded, IsPublished, loads_are_true, Part, core_of, port_of, HasBegun, IsLedTo, IsMarkedLike, has_no_step, holding_of, holdings, joined_since, IsKnown, begun_with, kept_with, since_with, past_with, added_by, AreNotesOf, LeadsOn, StepsStayLawful, PartAmong, LawfulAmong, memory_after}, Added.{added_at, IsExchange, StepAdds, step_adds}, Parts.{IsKeptAmong, changed, gone, gone_core, all_at, holdings_split, once_same}, Ports.fits_here, Steps.{LeadsAt, holding_in, known_here, sizes_here, sound_here, sound_at, port_here, memory_here, memory_at}, Reading.{read_begun, value_loaded, update_begun, viewing_leads, scanning_leads}, GetSetSteps.getting_leads, Claims.{record_begun, announcement_claimed, announcement_stored}, Joins.{same_step, joining_leads}, Leaves.{leave_due, leaves}, Exchange.record_exchanged, Stored.record_stored}
+use Rattle.partial_core.proofs.{Common.{ℕ, ◌≡◌, ◌<◌, ◌≤◌, ◌++◌, ◌⊎◌, Bool, true, false, if◌then◌else◌, Some, None, List, [], ◌∷◌, length, take, slice_index, refl, sym, ap, subst, ◌∙◌, inl, inr, arith, IfSome, false≢true, append-nil, take_all, Applied, Opening, LegalNotes, seen_by, places_by, Step, Add, Layout, IsLayout, pool_counter, list_base, pool_end, total, announcement_size, answer_of, words_after, Change, Stage, CoreState, lists_spent, advance, step_at, step_of, reply_of, is_begun, is_at_rest, IsPossible, IsAfterAnswer, size_few, answers_lead_on, Holding, unpublished, without_block, IsDue, IsLoaded, IsPublished, loads_are_true, Part, core_of, port_of, HasBegun, IsLedTo, IsMarkedLike, has_no_step, holding_of, holdings, joined_since, IsKnown, begun_with, kept_with, since_with, past_with, added_by, AreNotesOf, LeadsOn, StepsStayLawful, PartAmong, LawfulAmong, memory_after}, Added.{added_at, IsExchange, StepAdds, step_adds}, Parts.{IsKeptAmong, changed, gone, gone_core, all_at, holdings_split, once_same}, Ports.fits_here, Steps.{LeadsAt, holding_in, known_here, sizes_here, sound_here, sound_at, port_here, memory_here, memory_at}, Reading.{read_begun, value_loaded, update_begun, viewing_leads, scanning_leads}, GetSetSteps.getting_leads, Claims.{record_begun, announcement_claimed, announcement_stored}, Joins.{same_step, joining_leads}, Leaves.{leave_due, leaves}, Exchange.record_exchanged, Stored.record_stored}
 use Rattle.partial_machine.specs.declared.stage.Stage.TheVariants.{Idle, ReadBegun, LoadingValue, UpdateBegun, GettingSet, Viewing, ClaimingRecord, StoringRecord, Exchanging, ScanBegun, StoringAnnouncement, Joining, Scanning, Leaving, Finished}
 
 -- the part with its call begun
@@ -179,11 +179,11 @@ module _ (z : Layout) (o : Opening) (m : PartAmong) (c : CoreState) (step : Step
   then_lawful : LawfulAmong z o (memory_after z m step (gone (started c x) (log ++ added_by z (port_of x) words step) (answer_of words step) leads.new))
   then_lawful = subst (λ (l : List Applied). LawfulAmong z o (record m { words = words_after words step; part = gone (started c x) l (answer_of words step) leads.new; log = l })) grown leads.lawful
 
-  then_behind : IsBehind c (answer_of words step)
+  then_behind : IsAfterAnswer c (answer_of words step)
   then_behind =
       let sound = sound_here z o begun w in
       let layout : IsLayout (core_of (started c x)).sizes = subst IsLayout (sym (sizes_here z o begun w)) w.memory.sizes in
-      subst (λ (d : CoreState). IsBehind d (answer_of words step)) (sym mine) (answers_lead_on (core_of (started c x)) (answer_of words step) layout sound leads.possible)
+      subst (λ (d : CoreState). IsAfterAnswer d (answer_of words step)) (sym mine) (answers_lead_on (core_of (started c x)) (answer_of words step) layout sound leads.possible)
 
   -- a published word stays
   then_keeps : (n : ℕ) → list_base z ≤ n → n < total z → IsPublished z words (unpublished (holdings (before ++ x ∷ after))) n →

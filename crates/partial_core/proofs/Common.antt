@@ -16,11 +16,11 @@ pub use Rattle.partial_active.specs.declared.join.JoinStage.TheVariants.{Claimin
 pub use Rattle.partial_active.specs.{Found.{AreFoundFor, begins_at}, IndexSet.{has_index, with_index}, Join.{join_step, fits_join, join_after}, Moments.{AreOrderly, AtSome, IsOrderlyEvent, IsOrderlyRun, MakesOwn, words_behind}, Orderly.{slot_at, IsAnnouncement, IsHeadOf, IsSlotMove, IsSlotOf, IsVacatedList, Orderly, Publishes, head_at}}
 pub use Rattle.partial_machine.specs.declared.stage.{Change.Change, Reply.Reply, Stage.Stage}
 pub use Rattle.partial_machine.specs.declared.stage.Stage.TheVariants.{Finished, ScanBegun, Exchanging, Idle, StoringAnnouncement, StoringRecord, ClaimingRecord, GettingSet, Joining, Leaving, ReadBegun, UpdateBegun}
-pub use Rattle.partial_machine.specs.{Behind.{IsBehind, IsMarkedFor, refuses_pool, refuses_slots}, Bounds.most_steps, Calls.{call_at, is_at_rest, is_begun, update_call, begin_scan, begun_of}, Machine.{CoreState, step_at, advance_at, at_stage, step_of, advance, record_size, has_spare, claim_size, record_step, into_spare, into_claim, scanning, record_words, reply_of, expects, fits_pool, getting, lists_spent, pool_refused, reply_at, after_joining, after_scanning, begin_getting, begin_joining, with_getting, with_scanning, after_getting, overtaken_reply, own_pairs, scanned_reply, scanned_values, slots_refused, view_at}, Possible.{IsPossible, IsPossibleAt, IsRecordAnswer, IsPoolCount}, Sound.{is_sound_at, IsSound, AreComponentIndices, IsRecord}, Steps.{Run, AreOfScan, pairs_loaded}}
+pub use Rattle.partial_machine.specs.{Behind.{IsAfterAnswer, IsMarkedFor, refuses_pool, refuses_slots}, Bounds.most_steps, Calls.{call_at, is_at_rest, is_begun, update_call, begin_scan, begun_of}, Machine.{CoreState, step_at, advance_at, at_stage, step_of, advance, record_size, has_spare, claim_size, record_step, into_spare, into_claim, scanning, record_words, reply_of, expects, fits_pool, getting, lists_spent, pool_refused, reply_at, after_joining, after_scanning, begin_getting, begin_joining, with_getting, with_scanning, after_getting, overtaken_reply, own_pairs, scanned_reply, scanned_values, slots_refused, view_at}, Possible.{IsPossible, IsPossibleAt, IsRecordAnswer, IsPoolCount}, Sound.{is_sound_at, IsSound, AreComponentIndices, IsRecord}, Steps.{Run, AreOfScan, pairs_loaded}}
 pub use Rattle.partial_machine.proofs.{Begins.{rests_are_sound, calls_begin}, Behind.{answers_lead_on, due_at, either}, Sound.{size_few, record_cases, record_step_cases}, StepCounts.{makes_few_steps, reads_in_two}}
 pub use Rattle.partial_state.specs.{Effects.{IsKept, Keeps, State, idle_holdings, idle_holding}, Holdings.{Holding, unpublished, Own, IfJoined, ClaimedSlot, Due, HaveOtherPorts, without_block, EachTwo, Space, block_at, block_of, joined_in, space_begin}, LawfulWords.{LawfulWords, CoversAll, IsDue, IsEntry, IsOwn, IsTied, IsClaim}, Loads.{KeptAnswer, IsLoaded, IsPublished, IsSlotAnswer}, Views.{JoinedAnnouncement, Covers, HasPairs, IsBegunSince, IsHead, IsWithin, ViewNames, AreApart, Block, HasFreshView, IsAnnounced, IsApartFrom, IsPublishedList, IsView, IsViewOf}}
 pub use Rattle.partial_state.specs.Holdings.{Counted.{PoolWords, Slots, ListWords}, Space.{Pool, Lists}}
 pub use Rattle.partial_state.proofs.{Blocks.own_added, BlockLaws.{stores_are_kept, claims_are_kept, own_freed, publishings_are_kept}, Claimed.{entry_free, entry_published, unpublished_two}, Frames.{Frame, announcement_claimed, block_published, list_claimed, pairs_move, parts_apart, within_more}, HoldingLemmas.{own_in_pool, if_some_at, three_words, found_some, if_all, joined_weaker, unjoined_if, without_this}, ListLemmas.{all_weaker, all_after, all_before, all_append, two_after, two_before, all_at, all_back, all_front, all_join, all_map, all_unmap}, LoadLaw.loads_are_true, MarkLaws.{drops_are_kept, dues_are_kept, refusals_are_kept}, NoNewEntry.counter_bound, SpareLaws.{spares_are_kept, takes_are_kept}, SlotLaws.{joins_are_kept, leaves_are_kept, slot_claims_are_kept}, WinLaw.wins_are_kept}
 pub use Rattle.partial_knowledge.specs.{Scans.{IsThird, AreStamps, HasValues}, Sets.{IsReadable, HasAll}}
 pub use Rattle.partial_knowledge.proofs.{Chains.{stamp_within, begun_within, standing, standing_word}, Scans.{embedded_scans_know, got}, Sets.getsets_know}
-pub use Rattle.partial_core.specs.{Held.{holdings, holding_of, joined_since, holding_at, joins_at, is_storing, joined_from, own_at, own_list, slot_claimed}, Known.{IsKnown, IsTrueYet, AreAnswersKept, notes_by}, Lawful.{Lawful, LawfulAmong, OpensLawful}, Orderly.{LawfulIsOrderly, StepsAreOrderly}, Part.{Part, PartAmong, all_parts, core_of, first_at, port_of, HasBegun, led_by, IsLedTo, has_no_step, IsMachineOf, IsMarkedLike, answers_of, with_seen, fresh_parts}, Ports.{HasFewSteps, IsReady, LawfulCallsAreBounded, LawfulMachinesAreReady, LawfulPortsFit, LawfulRecordsAreWithin, LooksStayLawful}, Steps.{AreNotesOf, LeadsOn, memory_after, added_by, FitsHistory, PublishesWithin, StepsStayLawful, Tells, begun_with, kept_with, past_with, since_with}}
+pub use Rattle.partial_core.specs.{Held.{holdings, holding_of, joined_since, holding_at, joins_at, is_storing, joined_from, own_at, own_list, slot_claimed}, Known.{IsKnown, IsTrueYet, AreAnswersKept, notes_by}, Lawful.{Lawful, LawfulAmong, OpensLawful}, Orderly.{LawfulIsOrderly, StepsAreOrderly}, Part.{Part, PartAmong, all_parts, core_of, first_at, port_of, HasBegun, led_by, IsLedTo, has_no_step, IsMachineOf, IsMarkedLike, answers_of, with_seen, fresh_parts}, Ports.{HasFewSteps, IsReady, LawfulCallsAreBounded, LawfulMachinesAreReady, LawfulPortsFit, LawfulRecordsAreWithin, LooksStayLawful}, Steps.{AreNotesOf, LeadsOn, memory_after, added_by, FitsHistory, PublishesWithin, StepsStayLawful, StepShows, begun_with, kept_with, past_with, since_with}}

@@ -1,5 +1,5 @@
 -- A whole call, step by step.
-use Rattle.partial_core.proofs.{Common.{ℕ, ◌≡◌, ◌+◌, ◌<◌, ◌≤◌, ◌++◌, ◌||◌, Bool, true, false, if◌then◌else◌, Option, Some, None, List, [], ◌∷◌, length, take, refl, sym, ap, subst, ◌∙◌, arith, length-append, append-nil, length-map, length_push, map_push, take-append-le, Applied, Opening, Noted, Layout, IsLayout, Reply, Stage, Idle, Finished, CoreState, at_stage, advance, reply_at, reply_of, is_begun, is_at_rest, begun_of, begin_scan, IsSound, IsPossible, IsPossibleAt, Run, AreOfScan, pairs_loaded, most_steps, IsMarkedFor, refuses_pool, refuses_slots, IsBehind, calls_begin, rests_are_sound, makes_few_steps, reads_in_two, KeptAnswer, Part, core_of, answers_of, first_at, HasBegun, IsMarkedLike, AreNotesOf, Tells}, Parts.seen_within}
+use Rattle.partial_core.proofs.{Common.{ℕ, ◌≡◌, ◌+◌, ◌<◌, ◌≤◌, ◌++◌, ◌||◌, Bool, true, false, if◌then◌else◌, Option, Some, None, List, [], ◌∷◌, length, take, refl, sym, ap, subst, ◌∙◌, arith, length-append, append-nil, length-map, length_push, map_push, take-append-le, Applied, Opening, Noted, Layout, IsLayout, Reply, Stage, Idle, Finished, CoreState, at_stage, advance, reply_at, reply_of, is_begun, is_at_rest, begun_of, begin_scan, IsSound, IsPossible, IsPossibleAt, Run, AreOfScan, pairs_loaded, most_steps, IsMarkedFor, refuses_pool, refuses_slots, IsAfterAnswer, calls_begin, rests_are_sound, makes_few_steps, reads_in_two, KeptAnswer, Part, core_of, answers_of, first_at, HasBegun, IsMarkedLike, AreNotesOf, StepShows}, Parts.seen_within}
 use Rattle.partial_model.specs.declared.call.{Call.Call, Refused.Refused}
 use Rattle.partial_machine.proofs.ScanCounts.{scans_make_their_steps}
 use Rattle.partial_core.specs.Calls.{IsRefusedLast, Made, FirstStepsMakeCalls, FurtherStepsMakeCalls, MadeCallsMakeTheirSteps, CallsBeginBetween, PortsComeBetween}
@@ -26,13 +26,13 @@ take_through : {A : Type 0} (xs ys zs : List A) → xs ≡ take (length xs) ys �
 take_through xs ys zs e f = e ∙ ap (take (length xs)) f ∙ take_within (length xs) (length ys) zs (seen_within xs ys e)
 
 -- a refused call has marked its port
-marked_for : (s : CoreState) (a : ℕ) (cause : Refused) → IsBehind s a → reply_of (advance s a) ≡ Some (Reply.Refused cause) → IsMarkedFor (advance s a) cause
+marked_for : (s : CoreState) (a : ℕ) (cause : Refused) → IsAfterAnswer s a → reply_of (advance s a) ≡ Some (Reply.Refused cause) → IsMarkedFor (advance s a) cause
 marked_for s a Refused.Component b is = let r = b.refused_by Refused.Component is in r.0
 marked_for s a Refused.SlotsSpent b is = b.slots ∙ ap (λ (f : Option Reply). refuses_slots f || s.slots_spent) is
 marked_for s a Refused.PoolSpent b is = b.pool ∙ ap (λ (f : Option Reply). refuses_pool f || s.pool_spent) is
 
 -- a step of the machine c that came from the part y to the part v
-module _ (z : Layout) (o : Opening) (log entries : List Applied) (y : Part) (c : CoreState) (a : ℕ) (v : Part) (t : Tells z o log entries y c a v) where
+module _ (z : Layout) (o : Opening) (log entries : List Applied) (y : Part) (c : CoreState) (a : ℕ) (v : Part) (t : StepShows z o log entries y c a v) where
   abbrev k : KeptAnswer
   k = record { answer = a; at = length (log ++ entries) }
 

@@ -15,7 +15,7 @@ use Rattle.partial_machine.specs.Bounds.{most_steps, steps_left}
 use Rattle.partial_machine.specs.Behind.{IsRefusedBy, IsMarkedFor}
 use Rattle.partial_machine.specs.Steps.{Run, AreOfScan, pairs_loaded}
 use Rattle.partial_core.specs.Part.{Part, port_of, answers_of, first_at, HasBegun, IsLedTo, IsBetween, fresh_part}
-use Rattle.partial_core.specs.Steps.{AreNotesOf, FitsHistory, Tells}
+use Rattle.partial_core.specs.Steps.{AreNotesOf, FitsHistory, StepShows}
 
 -- why a call was refused after some steps: the last of them was its claim, which went past the end of its region
 pub record IsRefusedLast (b : CoreState) (answers : List ℕ) (c : CoreState) (cause : Refused) : Type 0 where
@@ -60,13 +60,13 @@ pub record Made (z : Layout) (o : Opening) (b : CoreState) (x : Part) (c : CoreS
 -- the first step of a call
 abbrev pub FirstStepsMakeCalls : Type 0
 FirstStepsMakeCalls = (z : Layout) (o : Opening) (log entries : List Applied) (b : CoreState) (x : Part) (a : ℕ) (y : Part) →
-    HasBegun b x → IsSound b → Tells z o log entries x b a y → Made z o b x (advance b a) y
+    HasBegun b x → IsSound b → StepShows z o log entries x b a y → Made z o b x (advance b a) y
 
 -- each further step
 abbrev pub FurtherStepsMakeCalls : Type 0
 FurtherStepsMakeCalls = (z : Layout) (o : Opening) (log entries : List Applied) (b : CoreState) (x : Part) (c : CoreState)
     (y : Part) (a : ℕ) (v : Part) →
-    Made z o b x c y → Tells z o log entries y c a v → Made z o b x (advance c a) v
+    Made z o b x c y → StepShows z o log entries y c a v → Made z o b x (advance c a) v
 
 -- how many steps a call has made, by its kept answers
 pub record MakesItsSteps (z : Layout) (b c : CoreState) (y : Part) : Type 0 where

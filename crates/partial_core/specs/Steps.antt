@@ -17,7 +17,7 @@ use Rattle.partial_machine.specs.declared.stage.Reply.{Reply}
 use Rattle.partial_machine.specs.Machine.{CoreState, advance, step_of, reply_of}
 use Rattle.partial_machine.specs.Calls.{is_begun, call_of, answer_for}
 use Rattle.partial_machine.specs.Possible.{IsPossible}
-use Rattle.partial_machine.specs.Behind.{IsBehind}
+use Rattle.partial_machine.specs.Behind.{IsAfterAnswer}
 use Rattle.partial_state.specs.Holdings.{unpublished}
 use Rattle.partial_state.specs.Loads.{KeptAnswer, IsPublished}
 use Rattle.partial_knowledge.specs.Scans.{AreStamps}
@@ -114,14 +114,14 @@ pub record FitsHistory (o : Opening) (log : List Applied) (x : Part) : Type 0 wh
 
 -- What a step of the machine c shows its port, where its answer is a and the history had been `log` and has gained these
 -- entries: it leads from the part x to the part y.
-pub record Tells (z : Layout) (o : Opening) (log entries : List Applied) (x : Part) (c : CoreState) (a : ℕ) (y : Part) : Type 0 where
+pub record StepShows (z : Layout) (o : Opening) (log entries : List Applied) (x : Part) (c : CoreState) (a : ℕ) (y : Part) : Type 0 where
   pub new : List Noted
   pub part : y ≡ moved_part c a (log ++ entries) new x
   -- the history begins with all that the port had seen
   pub seen : x.seen ≡ take (length x.seen) log
   -- the answer was possible, and the machine after it is the part's
   pub possible : IsPossible c a
-  pub behind : IsBehind c a
+  pub behind : IsAfterAnswer c a
   pub machine : IsLedTo (advance c a) y
   pub sizes : c.sizes ≡ z
   pub begun_sizes : y.begun.sizes ≡ z
@@ -141,7 +141,7 @@ pub record LeadsOn (z : Layout) (o : Opening) (m : PartAmong) (c : CoreState) (s
   pub answers : Answers m.words step (answer_of m.words step)
   pub publishes : PublishesWithin z m.words step
   pub y : Part
-  pub tells : Tells z o m.log (added_by z (port_of m.part) m.words step) m.part c (answer_of m.words step) y
+  pub tells : StepShows z o m.log (added_by z (port_of m.part) m.words step) m.part c (answer_of m.words step) y
   pub lawful : LawfulAmong z o (memory_after z m step y)
   -- a published word stays the same forever
   pub keeps : (w : ℕ) → list_base z ≤ w → w < total z → IsPublished z m.words (unpublished (holdings (all_parts m))) w →

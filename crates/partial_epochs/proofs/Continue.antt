@@ -1,5 +1,5 @@
 -- The history of all epochs goes on where an epoch ends.
-use Rattle.partial_epochs.proofs.{Common.{ℕ, zero, suc, ◌≡◌, ◌+◌, ◌<◌, ◌≤◌, ◌==◌, ◌++◌, Bool, true, false, if◌then◌else◌, Option, Some, None, IfSome, List, [], ◌∷◌, length, take, map, slice_index, refl, sym, ap, subst, ◌∙◌, arith, option_map, option_map_or, AllByRecursion, lt-ltb, length-map, Applied, Opening, last_entry, initial_stamp, stamp_of, value_of, behind_both, some_same, all_weaker, first_free, list_of, Plan, arena_words, carried_word, carried_words, carried_after, stamp_after, history_of, opened_after, public_entry, public_log, public_stamp, EpochsContinue, Port, Epoch, Stands, IsSiteWord, Beside, IsStanding, LawfulEpochs, ReadsTellAllEpochs, read_stamp, IsEntry, not_below}, Lists.at_of}
+use Rattle.partial_epochs.proofs.{Common.{ℕ, zero, suc, ◌≡◌, ◌+◌, ◌<◌, ◌≤◌, ◌==◌, ◌++◌, Bool, true, false, if◌then◌else◌, Option, Some, None, IfSome, List, [], ◌∷◌, length, take, map, slice_index, refl, sym, ap, subst, ◌∙◌, arith, option_map, option_map_or, AllByRecursion, lt-ltb, length-map, Applied, Opening, last_entry, initial_stamp, stamp_of, value_of, behind_both, some_same, all_weaker, first_free, list_of, Plan, arena_words, carried_word, carried_words, carried_after, stamp_after, history_of, opened_after, public_entry, public_log, public_stamp, EpochsContinue, Port, Epoch, Stands, IsSiteWord, Beside, IsStanding, LawfulEpochs, ReadsAnswerOverEpochs, read_stamp, IsEntry, not_below}, Lists.at_of}
 use Rattle.partial_model.specs.History.{last_from}
 use Rattle.partial_core.specs.Lawful as one
 
@@ -110,8 +110,8 @@ module _ (e : Plan) (words : List ℕ) (ports : ℕ → Port) (b : Beside) (k : 
       ∙ ap (λ i. slice_index words (carried_word e x i)) (omega arith) in
       sym at ∙ (w.arenas (ports k).control.here.arena s.epoch s.is).stamps j inside ∙ ap (λ (l : List (List Applied)). stamp_after e.opening l j) s.before
 
-pub reads_tell_all_epochs : ReadsTellAllEpochs
-reads_tell_all_epochs e words ports b k j n w below stands inside s few =
+pub reads_answer_over_epochs : ReadsAnswerOverEpochs
+reads_answer_over_epochs e words ports b k j n w below stands inside s few =
     let p : Port = ports k in
     let before : List (List Applied) = (ports k).before in
     let log : List Applied = s.epoch.log in

@@ -1,5 +1,5 @@
 -- A step on the control words alone.
-use Rattle.partial_epochs.proofs.{Common.{ℕ, ◌≡◌, ◌≢◌, ◌+◌, ◌<◌, ◌==◌, ◌⊎◌, true, false, Option, Some, None, IfSome, List, length, slice_index, slice_set, sym, ap, subst, ◌∙◌, inl, inr, arith, eqb_tells, get_or-set_same, get_or-set_other, put, Plan, Site, IsSite, at_word, control_size, current_word, marked, packed, Control, Entering, OwnedArena, IsSiteWord, IsEarlier, IsStillMarked, IsOld, IsOut, IsOwner, LawfulControl, MayPut, NotInto, Stands, Marks, Loaded}, Lists.{put_all, put_other, put_same}}
+use Rattle.partial_epochs.proofs.{Common.{ℕ, ◌≡◌, ◌≢◌, ◌+◌, ◌<◌, ◌==◌, ◌⊎◌, true, false, Option, Some, None, IfSome, List, length, slice_index, slice_set, sym, ap, subst, ◌∙◌, inl, inr, arith, eqb_tells, get_or-set_same, get_or-set_other, put, Plan, Site, IsSite, at_word, control_size, current_word, entering_from, packed, Control, Entering, OwnedArena, IsSiteWord, IsEarlier, IsStillEntering, IsOld, IsOut, IsOwner, LawfulControl, MayPut, NotInto, Stands, StoredEntering, Loaded}, Lists.{put_all, put_other, put_same}}
 
 -- port k, which owns no arena, changes what it does, and its word
 module _ (e : Plan) (words : List ℕ) (cs : ℕ → Control) (now : Site) (holds : ℕ → Option ℕ) (w : LawfulControl e words cs now holds) (k : ℕ) (below : k < e.ports) (c : Control) (v : ℕ)
@@ -30,9 +30,9 @@ module _ (e : Plan) (words : List ℕ) (cs : ℕ → Control) (now : Site) (hold
   -- another port is out as before
   out_other : (x q : ℕ) → q ≢ k → IsOut e words cs x q → IsOut e words' cs' x q
   out_other x q ne h = record {
-    unmarked = λ d site at. h.unmarked d site (sym (other_at q ne) ∙ at);
+    without_bit = λ d site at. h.without_bit d site (sym (other_at q ne) ∙ at);
     loaded = λ at. subst (λ (d : Control). NotInto x d.entering) (sym (put_other k c cs q ne))
-        (h.loaded (sym (other_at q ne) ∙ at ∙ ap (λ (d : Control). marked d.here) (put_other k c cs q ne)));
+        (h.loaded (sym (other_at q ne) ∙ at ∙ ap (λ (d : Control). entering_from d.here) (put_other k c cs q ne)));
     put = λ p a inside may at.
         let was = putter p q a may in
         subst (λ (d : Control). d.here.arena ≢ x) (sym (put_other k c cs p was.1)) (h.put p a inside was.0 (sym (other_at q ne) ∙ at));
@@ -45,7 +45,7 @@ module _ (e : Plan) (words : List ℕ) (cs : ℕ → Control) (now : Site) (hold
     pub old : IsOld e now.epoch c.here c.entering
     pub past : c.past ≡ true → c.here.epoch < now.epoch
     pub stands : (d : Site) → IsSite e d → v ≡ packed d → holds d.arena ≡ Some d.epoch
-    pub comes : (d : Site) → c.entering ≡ Loaded d → v ≡ marked c.here → holds d.arena ≡ Some d.epoch
+    pub comes : (d : Site) → c.entering ≡ Loaded d → v ≡ entering_from c.here → holds d.arena ≡ Some d.epoch
     pub out : (x : ℕ) → now.arena ≢ x → IsOut e words cs x k → IsOut e words' cs' x k
     pub earlier : (a : Site) → IsEarlier a (cs k).here (cs k).entering → IsEarlier a c.here c.entering
 
@@ -60,8 +60,8 @@ module _ (e : Plan) (words : List ℕ) (cs : ℕ → Control) (now : Site) (hold
       order = h.order;
       few = h.few;
       out = λ p low within apart. by (eqb_tells p k) low within (h.out p low within apart) h;
-      older = subst (λ (d : Control). o.again ≡ true → IfSome o.mark (λ a. a.epoch < d.here.epoch)) (sym (put_other k c cs q ne)) h.older;
-      held = held (eqb_tells o.clean k) o.mark h.held;
+      older = subst (λ (d : Control). o.again ≡ true → IfSome o.entering_word (λ a. a.epoch < d.here.epoch)) (sym (put_other k c cs q ne)) h.older;
+      held = held (eqb_tells o.clean k) o.entering_word h.held;
       all = h.all;
       none = h.none;
     }
@@ -95,7 +95,7 @@ module _ (e : Plan) (words : List ℕ) (cs : ℕ → Control) (now : Site) (hold
       old = λ q inside. put_all (λ i (d : Control). i < e.ports → IsOld e now.epoch d.here d.entering) k c cs q (λ _ _. g.old) (λ _ inside. w.old q inside) inside;
       past = λ q inside. put_all (λ i (d : Control). i < e.ports → d.past ≡ true → d.here.epoch < now.epoch) k c cs q (λ _ _. g.past) (λ _ inside. w.past q inside) inside;
       stands = λ q d inside site at. stands (eqb_tells q k) d inside site at;
-      comes = λ q d inside. put_all (λ i (f : Control). i < e.ports → f.entering ≡ Loaded d → IsStillMarked words' f i → holds d.arena ≡ Some d.epoch) k c cs q
+      comes = λ q d inside. put_all (λ i (f : Control). i < e.ports → f.entering ≡ Loaded d → IsStillEntering words' f i → holds d.arena ≡ Some d.epoch) k c cs q
           (λ _ _ is at. g.comes d is (sym own ∙ at)) (λ ne inside is at. w.comes q d inside is (sym (other_at q ne) ∙ at)) inside;
       owners = λ q inside. put_all (λ i (d : Control). i < e.ports → IfSome d.owned (IsOwner e words' cs' now holds i)) k c cs q
           (λ _ _. subst (λ (o : Option OwnedArena). IfSome o (IsOwner e words' cs' now holds k)) (sym free') tt)
@@ -104,8 +104,8 @@ module _ (e : Plan) (words : List ℕ) (cs : ℕ → Control) (now : Site) (hold
       where
         at_other : (q : ℕ) (here : Site) (t : Entering) → q ≢ k → IsSiteWord e words q here t → IsSiteWord e words' q here t
         at_other q here Stands ne h = other_at q ne ∙ h
-        at_other q here Marks ne (inl h) = inl (other_at q ne ∙ h)
-        at_other q here Marks ne (inr h) = inr (h.0, h.1, other_at q ne ∙ h.2, h.3)
+        at_other q here StoredEntering ne (inl h) = inl (other_at q ne ∙ h)
+        at_other q here StoredEntering ne (inr h) = inr (h.0, h.1, other_at q ne ∙ h.2, h.3)
         at_other q here (Loaded d) ne (inl h) = inl (other_at q ne ∙ h)
         at_other q here (Loaded d) ne (inr h) = inr (h.0, h.1, other_at q ne ∙ h.2, h.3)
 

@@ -1,5 +1,5 @@
 -- The steps by which a port enters the current epoch.
-use Rattle.partial_epochs.proofs.{Common.{ℕ, ◌≡◌, ◌≢◌, ◌+◌, ◌<◌, ◌≤◌, ◌==◌, ◌⊎◌, Bool, true, false, if◌then◌else◌, Option, Some, None, IfSome, List, length, slice_index, slice_set, refl, sym, ap, subst, ◌∙◌, inl, inr, arith, option_map, eqb_tells, get_or-set_same, get_or-set_other, length-set, set-get_or, Applied, some_same, total, slot_counter, slot_word, HasClearRecords, HasClearSlots, put, Plan, Site, IsSite, at_word, arena_words, base, carried_word, carried_words, component_words, control_size, control_words, current_word, marked, packed, plain, set_word, arena_limit, Control, OwnedArena, Port, Epoch, IsSiteWord, IsEarlier, IsOld, IsOut, IsOwner, LawfulControl, MayPut, NotInto, Beside, IsArena, IsNewPart, IsSetting, IsStanding, LawfulEpochs, controls, numbers, site_now, IsPresent, Arrives, ArrivalsStayLawful, EntriesLoad, LooksAreTrue, MarksStayLawful, arrived_port, Stands, Marks, Loaded}, ClearRecords.records_same, ControlChange.{Goes, control_goes, own, putter}, Lists.{at_of, length_of, put_all, put_other, put_same, same_of, set_of}, Offsets.{packed_arena, set_index}, Present.{present, same_site}}
+use Rattle.partial_epochs.proofs.{Common.{ℕ, ◌≡◌, ◌≢◌, ◌+◌, ◌<◌, ◌≤◌, ◌==◌, ◌⊎◌, Bool, true, false, if◌then◌else◌, Option, Some, None, IfSome, List, length, slice_index, slice_set, refl, sym, ap, subst, ◌∙◌, inl, inr, arith, option_map, eqb_tells, get_or-set_same, get_or-set_other, length-set, set-get_or, Applied, some_same, total, slot_counter, slot_word, HasClearRecords, HasClearSlots, put, Plan, Site, IsSite, at_word, arena_words, base, carried_word, carried_words, component_words, control_size, control_words, current_word, entering_from, packed, plain, set_word, arena_limit, Control, OwnedArena, Port, Epoch, IsSiteWord, IsEarlier, IsOld, IsOut, IsOwner, LawfulControl, MayPut, NotInto, Beside, IsArena, IsNewPart, IsSetting, IsStanding, LawfulEpochs, controls, numbers, site_now, IsPresent, Arrives, ArrivalsStayLawful, EntriesLoad, LooksAreTrue, EnteringWordsStayLawful, arrived_port, Stands, StoredEntering, Loaded}, ClearRecords.records_same, ControlChange.{Goes, control_goes, own, putter}, Lists.{at_of, length_of, put_all, put_other, put_same, same_of, set_of}, Offsets.{packed_arena, set_index}, Present.{present, same_site}}
 
 -- words that differ in control words alone
 module _ (e : Plan) (words words' : List ℕ) (high : (i : ℕ) → control_size e ≤ i → slice_index words' i ≡ slice_index words i) where
@@ -102,11 +102,11 @@ module _ (e : Plan) (words : List ℕ) (ports : ℕ → Port) (b : Beside) (k : 
         (control_goes e cw (controls ports) (site_now b) (numbers b) w.control k inside p'.control v free free' (cw_long e words) goes))
         stand later inside
 
-pub not_marked : (e : Plan) (p q : Site) → e.arenas ≤ arena_limit → IsSite e p → packed p ≡ marked q → ⊥
-not_marked e p q few h same = let r = h.epoch in let b = h.arena in omega (arith, few, r, b, same)
+pub not_entering_word : (e : Plan) (p q : Site) → e.arenas ≤ arena_limit → IsSite e p → packed p ≡ entering_from q → ⊥
+not_entering_word e p q few h same = let r = h.epoch in let b = h.arena in omega (arith, few, r, b, same)
 
-pub marked_epoch : (e : Plan) (p q : Site) → e.arenas ≤ arena_limit → IsSite e p → IsSite e q → marked p ≡ marked q → p.epoch ≡ q.epoch
-marked_epoch e p q few g h same = let b = g.arena in let c = h.arena in omega (arith, few, b, c, same)
+pub entering_epoch : (e : Plan) (p q : Site) → e.arenas ≤ arena_limit → IsSite e p → IsSite e q → entering_from p ≡ entering_from q → p.epoch ≡ q.epoch
+entering_epoch e p q few g h same = let b = g.arena in let c = h.arena in omega (arith, few, b, c, same)
 
 module _ (e : Plan) (words : List ℕ) (ports : ℕ → Port) (b : Beside) (k : ℕ) (w : LawfulEpochs e words ports b) (inside : k < e.ports) where
   abbrev at_now : ℕ
@@ -125,11 +125,11 @@ module _ (e : Plan) (words : List ℕ) (ports : ℕ → Port) (b : Beside) (k : 
   long = cw_long e words
 
   -- the entering word that another port holds of port k
-  pub held_mark : (p : ℕ) (a : Site) → p < e.ports → MayPut (cs p) k a → IsSite e a × IsEarlier a (cs k).here (cs k).entering
-  held_mark p a low may =
+  pub held_entering : (p : ℕ) (a : Site) → p < e.ports → MayPut (cs p) k a → IsSite e a × IsEarlier a (cs k).here (cs k).entering
+  held_entering p a low may =
       let own : IsOwner e (control_words e words) cs (site_now b) (numbers b) p may.owned =
       subst (λ (o : Option OwnedArena). IfSome o (IsOwner e (control_words e words) cs (site_now b) (numbers b) p)) may.is (w.control.owners p low) in
-      let h = subst (λ (m : Option Site). IfSome m (λ a. IsSite e a × IsEarlier a (cs may.owned.clean).here (cs may.owned.clean).entering)) may.mark own.held in
+      let h = subst (λ (m : Option Site). IfSome m (λ a. IsSite e a × IsEarlier a (cs may.owned.clean).here (cs may.owned.clean).entering)) may.entering_word own.held in
       (h.0, subst (λ i. IsEarlier a (cs i).here (cs i).entering) may.port h.1)
 
   -- a change that leaves the words
@@ -186,10 +186,10 @@ module _ (e : Plan) (words : List ℕ) (ports : ℕ → Port) (b : Beside) (k : 
                   old = w.control.old k inside;
                   past = λ _. less;
                   stands = λ d site is. w.control.stands k d inside site (at_is ∙ is);
-                  comes = λ d is mark. w.control.comes k d inside is (at_is ∙ mark);
+                  comes = λ d is entering_word. w.control.comes k d inside is (at_is ∙ entering_word);
                   out = λ x ne h. record {
-                    unmarked = λ d site is. h.unmarked d site (sym at ∙ is);
-                    loaded = λ is. subst (λ (f : Control). NotInto x f.entering) (sym (put_same k c cs)) (h.loaded (sym at ∙ is ∙ ap (λ (f : Control). marked f.here) (put_same k c cs)));
+                    without_bit = λ d site is. h.without_bit d site (sym at ∙ is);
+                    loaded = λ is. subst (λ (f : Control). NotInto x f.entering) (sym (put_same k c cs)) (h.loaded (sym at ∙ is ∙ ap (λ (f : Control). entering_from f.here) (put_same k c cs)));
                     put = λ p a low may is. let was = was_putter c v free free p k a may in
                         subst (λ (f : Control). f.here.arena ≢ x) (sym (put_other k c cs p was.1)) (h.put p a low was.0 (sym at ∙ is));
                   };
@@ -199,14 +199,14 @@ module _ (e : Plan) (words : List ℕ) (ports : ℕ → Port) (b : Beside) (k : 
           )
 
   -- the entering word is stored
-  pub marks : (ports k).control.entering ≡ Stands → (ports k).control.past ≡ true → (ports k).control.owned ≡ None →
-      LawfulEpochs e (slice_set words (at_word k) (marked (ports k).control.here)) (put k (record (ports k) { control = record (ports k).control { entering = Marks } }) ports) b
-  marks stands past free =
-      let c : Control = record (ports k).control { entering = Marks } in
-      let v : ℕ = marked (ports k).control.here in
+  pub entering_words : (ports k).control.entering ≡ Stands → (ports k).control.past ≡ true → (ports k).control.owned ≡ None →
+      LawfulEpochs e (slice_set words (at_word k) (entering_from (ports k).control.here)) (put k (record (ports k) { control = record (ports k).control { entering = StoredEntering } }) ports) b
+  entering_words stands past free =
+      let c : Control = record (ports k).control { entering = StoredEntering } in
+      let v : ℕ = entering_from (ports k).control.here in
       let less = w.control.past k inside past in
       let at : slice_index (slice_set (control_words e words) (at_word k) v) (at_word k) ≡ v = set_at c v free free in
-      let none : (d : Site) → IsSite e d → v ≡ packed d → ⊥ = λ d site is. not_marked e d (ports k).control.here w.plan.arenas site (sym is) in
+      let none : (d : Site) → IsSite e d → v ≡ packed d → ⊥ = λ d site is. not_entering_word e d (ports k).control.here w.plan.arenas site (sym is) in
       at_set e words ports b k (record (ports k) { control = c }) v w inside free free
       (record {
         site = w.control.sites k inside;
@@ -214,15 +214,15 @@ module _ (e : Plan) (words : List ℕ) (ports : ℕ → Port) (b : Beside) (k : 
         old = less;
         past = λ _. less;
         stands = λ d site is. absurd (none d site is);
-        comes = λ d is mark. absurd cc;
+        comes = λ d is entering_word. absurd cc;
         out = λ x ne h. record {
-          unmarked = λ d site is. absurd (none d site (sym at ∙ is));
+          without_bit = λ d site is. absurd (none d site (sym at ∙ is));
           loaded = λ is. subst (λ (f : Control). NotInto x f.entering) (sym (put_same k c cs)) tt;
           put = λ p a low may is.
               let was = was_putter c v free free p k a may in
-              let mark = held_mark p a low was.0 in
-              let early : a.epoch < (ports k).control.here.epoch = subst (IsEarlier a (ports k).control.here) stands mark.1 in
-              let same = marked_epoch e a (ports k).control.here w.plan.arenas mark.0 (w.control.sites k inside) (sym is ∙ at) in
+              let entering_word = held_entering p a low was.0 in
+              let early : a.epoch < (ports k).control.here.epoch = subst (IsEarlier a (ports k).control.here) stands entering_word.1 in
+              let same = entering_epoch e a (ports k).control.here w.plan.arenas entering_word.0 (w.control.sites k inside) (sym is ∙ at) in
               absurd (omega (arith, early, same));
         };
         earlier = λ a h. let early : a.epoch < (ports k).control.here.epoch = subst (IsEarlier a (ports k).control.here) stands h in omega (arith, early);
@@ -230,7 +230,7 @@ module _ (e : Plan) (words : List ℕ) (ports : ℕ → Port) (b : Beside) (k : 
       (λ is. absurd cc) (omega arith)
 
   -- the current site is loaded
-  pub loads : (ports k).control.entering ≡ Marks → LawfulEpochs e words (put k (record (ports k) { control = record (ports k).control { entering = Loaded (site_now b) } }) ports) b
+  pub loads : (ports k).control.entering ≡ StoredEntering → LawfulEpochs e words (put k (record (ports k) { control = record (ports k).control { entering = Loaded (site_now b) } }) ports) b
   loads entering =
       let free = owns_none (ports k).control.owned refl (w.control.owners k inside) in
       let c : Control = record (ports k).control { entering = Loaded (site_now b) } in
@@ -244,9 +244,9 @@ module _ (e : Plan) (words : List ℕ) (ports : ℕ → Port) (b : Beside) (k : 
         old = (less, omega arith, w.control.site);
         past = w.control.past k inside;
         stands = λ d site is. w.control.stands k d inside site (at_is ∙ is);
-        comes = λ d is mark. let same : site_now b ≡ d = cc in subst (λ (d : Site). numbers b d.arena ≡ Some d.epoch) same w.control.present;
+        comes = λ d is entering_word. let same : site_now b ≡ d = cc in subst (λ (d : Site). numbers b d.arena ≡ Some d.epoch) same w.control.present;
         out = λ x ne h. record {
-          unmarked = λ d site is. h.unmarked d site (sym at ∙ is);
+          without_bit = λ d site is. h.without_bit d site (sym at ∙ is);
           loaded = λ is. subst (λ (f : Control). NotInto x f.entering) (sym (put_same k c cs)) ne;
           put = λ p a low may is. let was = was_putter c v free free p k a may in
               subst (λ (f : Control). f.here.arena ≢ x) (sym (put_other k c cs p was.1)) (h.put p a low was.0 (sym at ∙ is));
@@ -259,7 +259,7 @@ module _ (e : Plan) (words : List ℕ) (ports : ℕ → Port) (b : Beside) (k : 
       owns_none None is h = is
       owns_none (Some o) is h = let stands = h.stands in absurd cc
 
-      at_as : (v : ℕ) → IsSiteWord e (control_words e words) k (ports k).control.here Marks → slice_index (slice_set (control_words e words) (at_word k) v) (at_word k) ≡ at_now →
+      at_as : (v : ℕ) → IsSiteWord e (control_words e words) k (ports k).control.here StoredEntering → slice_index (slice_set (control_words e words) (at_word k) v) (at_word k) ≡ at_now →
           IsSiteWord e (slice_set (control_words e words) (at_word k) v) k (ports k).control.here (Loaded (site_now b))
       at_as v (inl h) at = inl (at ∙ h)
       at_as v (inr h) at = inr (h.0, h.1, at ∙ h.2, h.3)
@@ -274,8 +274,8 @@ epoch_at b x g is = by (b.holds x) refl is
 
 module _ (e : Plan) (words : List ℕ) (ports : ℕ → Port) (b : Beside) (k : ℕ) (w : LawfulEpochs e words ports b) (inside : k < e.ports) (c : Site)
     (entering : (ports k).control.entering ≡ Loaded c) where
-  abbrev mark : ℕ
-  mark = marked (ports k).control.here
+  abbrev entering_word : ℕ
+  entering_word = entering_from (ports k).control.here
 
   free : (ports k).control.owned ≡ None
   free = by (ports k).control.owned refl (w.control.owners k inside)
@@ -309,11 +309,11 @@ module _ (e : Plan) (words : List ℕ) (ports : ℕ → Port) (b : Beside) (k : 
                 old = within;
                 past = λ is. absurd cc;
                 stands = λ d there is. subst (λ (d : Site). numbers b d.arena ≡ Some d.epoch) (is_p d there is) holds;
-                comes = λ d is mark. absurd cc;
+                comes = λ d is entering_word. absurd cc;
                 out = λ x ne h. record {
-                  unmarked = λ d there is. subst (λ (d : Site). d.arena ≢ x) (is_p d there (sym at ∙ is)) (away x h);
+                  without_bit = λ d there is. subst (λ (d : Site). d.arena ≢ x) (is_p d there (sym at ∙ is)) (away x h);
                   loaded = λ is. subst (λ (f : Control). NotInto x f.entering) (sym (put_same k c' (controls ports))) tt;
-                  put = λ q a low may is. absurd (not_marked e p a w.plan.arenas site (sym v_is ∙ sym at ∙ is));
+                  put = λ q a low may is. absurd (not_entering_word e p a w.plan.arenas site (sym v_is ∙ sym at ∙ is));
                 };
                 earlier = λ a h. let early : a.epoch ≤ (ports k).control.here.epoch = subst (IsEarlier a (ports k).control.here) entering h in omega (arith, early, later);
               })
@@ -327,8 +327,8 @@ module _ (e : Plan) (words : List ℕ) (ports : ℕ → Port) (b : Beside) (k : 
     where
       by : IsSiteWord e (control_words e words) k (ports k).control.here (Loaded c) → slice_index (control_words e words) (at_word k) ≡ slice_index words (at_word k) → Arrives e words ports b k c
       by (inl is) same =
-          let raw : slice_index words (at_word k) ≡ mark = sym same ∙ is in
-          let won : (slice_index words (at_word k) == mark) ≡ true = (elim (eqb_tells (slice_index words (at_word k)) mark) [ inl t ↦ t.0 | inr f ↦ absurd (f.1 raw) ]) in
+          let raw : slice_index words (at_word k) ≡ entering_word = sym same ∙ is in
+          let won : (slice_index words (at_word k) == entering_word) ≡ true = (elim (eqb_tells (slice_index words (at_word k)) entering_word) [ inl t ↦ t.0 | inr f ↦ absurd (f.1 raw) ]) in
           let holds = w.control.comes k c inside entering is in
           let away : (x : ℕ) → IsOut e (control_words e words) (controls ports) x k → c.arena ≢ x = λ x h. subst (NotInto x) entering (h.loaded is) in
           let g = comes_to c (packed c) refl old.2 old.0 old.1 holds away in
@@ -343,13 +343,13 @@ module _ (e : Plan) (words : List ℕ) (ports : ℕ → Port) (b : Beside) (k : 
       by (inr found) same =
           let p : Site = found.0 in
           let raw : slice_index words (at_word k) ≡ packed p = sym same ∙ found.2 in
-          let lost : (slice_index words (at_word k) == mark) ≡ false = (elim (eqb_tells (slice_index words (at_word k)) mark) [
-            | inl t ↦ absurd (not_marked e p (ports k).control.here w.plan.arenas found.1 (sym raw ∙ t.1))
+          let lost : (slice_index words (at_word k) == entering_word) ≡ false = (elim (eqb_tells (slice_index words (at_word k)) entering_word) [
+            | inl t ↦ absurd (not_entering_word e p (ports k).control.here w.plan.arenas found.1 (sym raw ∙ t.1))
             | inr f ↦ f.0
           ]) in
           let holds = w.control.stands k p inside found.1 found.2 in
           let within : p.epoch ≤ length b.before = (elim (w.control.earlier p.arena p.epoch holds) [ inl less ↦ omega (arith, less) | inr even ↦ let n = even.0 in omega (arith, n) ]) in
-          let away : (x : ℕ) → IsOut e (control_words e words) (controls ports) x k → p.arena ≢ x = λ x h. h.unmarked p found.1 found.2 in
+          let away : (x : ℕ) → IsOut e (control_words e words) (controls ports) x k → p.arena ≢ x = λ x h. h.without_bit p found.1 found.2 in
           let g = comes_to p (slice_index words (at_word k)) raw found.1 found.3 within holds away in
           record {
             site = p;
@@ -366,8 +366,8 @@ arrivals_stay_lawful e words ports b k c w inside entering = arrives e words por
 pub looks_are_true : LooksAreTrue
 looks_are_true e words ports b k w inside stands free = looks e words ports b k w inside stands free
 
-pub marks_stay_lawful : MarksStayLawful
-marks_stay_lawful e words ports b k w inside stands past free = marks e words ports b k w inside stands past free
+pub entering_words_stay_lawful : EnteringWordsStayLawful
+entering_words_stay_lawful e words ports b k w inside stands past free = entering_words e words ports b k w inside stands past free
 
 pub entries_load : EntriesLoad
 entries_load e words ports b k w inside entering = (current_is e words ports b k w inside, loads e words ports b k w inside entering)

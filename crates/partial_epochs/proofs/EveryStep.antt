@@ -1,5 +1,5 @@
 -- Every step of every port keeps the memory lawful.
-use Rattle.partial_epochs.proofs.{Common.{ℕ, ◌≡◌, ◌+◌, ◌-◌, ◌<◌, ◌≤◌, ◌⊎◌, ◌++◌, List, [], ◌∷◌, length, slice_index, refl, sym, ap, subst, ◌∙◌, inl, inr, arith, append-nil, Applied, eqb_tells, Noted, Step, Add, CoreState, put, Site, Plan, at_word, current_word, packed, seal, Control, Port, history_of, public_log, Marks, Loaded, Beside, LawfulEpochs, site_now, arrived_port, having_passed, MayPut, at_next_port, having_given, having_loaded, having_looked, having_put, just_taken, owning_port, having_published, having_set, next_beside, vacated, EveryStepStaysLawful, IsSiteAfter, MayAdd, MayMove, MemoriesOpenLawful, Move, MoveLeads, moved_words, since_after, Makes, Seals, PassesSealed, LooksAsOwner, StoresMark, LoadsCurrent, ExchangesMark, Takes, Gives, FindsElsewhere, LoadsMark, Puts, Sets, Notes, Sees, Rests, Becomes, IsBesideAs, IsSight, IsStanding, Bool, if◌then◌else◌, entering_mark, noted_after, unpacked, MachineLeads, IsAside, LawfulMemory, having_seen, noting, one_history, FindsClear, passing_port, KeepsTime}, Entering.{arrivals_stay_lawful, entries_load, looks_are_true, marks_stay_lawful}, Lists.put_all, MachineSteps.machine_steps_stay_lawful, NotesStay.{adds_of, history_is, notes_stay_lawful}, OpensAll.epochs_open_lawful, OwnerLooks.owners_look, Present.unpacked_is, Publishes.publishes_stay_lawful, Puts.puts_stay_lawful, Seals.{sealed_passes_stay_lawful, seals_stay_lawful}, Sets.{clear_slots_count_as_set, sets_stay_lawful}, Sights.{arrivals_keep_notes, asides_stay_lawful, glances_stay_lawful, publishes_keep_notes, sights_stay_lawful}, Taking.{gives_stay_lawful, marks_are_loaded, others_are_elsewhere, owners_look_away, takes_stay_lawful}, Time.{arrivals_keep_time, asides_keep_time, entries_keep_time, loaded_marks_keep_time, looks_keep_time, marks_keep_time, not_again, one_aside, publishes_keep_time, puts_keep_time, puts_nobody, set_puts, steps_keep_sites}}
+use Rattle.partial_epochs.proofs.{Common.{ℕ, ◌≡◌, ◌+◌, ◌-◌, ◌<◌, ◌≤◌, ◌⊎◌, ◌++◌, List, [], ◌∷◌, length, slice_index, refl, sym, ap, subst, ◌∙◌, inl, inr, arith, append-nil, Applied, eqb_tells, Noted, Step, Add, CoreState, put, Site, Plan, at_word, current_word, packed, seal, Control, Port, history_of, public_log, StoredEntering, Loaded, Beside, LawfulEpochs, site_now, arrived_port, having_passed, MayPut, at_next_port, having_given, having_loaded, having_looked, having_put, just_taken, owning_port, having_published, having_set, next_beside, vacated, EveryStepStaysLawful, IsSiteAfter, MayAdd, MayMove, MemoriesOpenLawful, Move, MoveLeads, moved_words, since_after, Makes, Seals, PassesSealed, LooksAsOwner, StoresEnteringWord, LoadsCurrent, ExchangesEnteringWord, Takes, Gives, FindsElsewhere, LoadsEnteringWord, Puts, Sets, Notes, Sees, Rests, Becomes, IsBesideAs, IsSight, IsStanding, Bool, if◌then◌else◌, entering_bit, noted_after, unpacked, MachineLeads, IsAside, LawfulMemory, having_seen, noting, one_history, FindsClear, passing_port, KeepsTime}, Entering.{arrivals_stay_lawful, entries_load, looks_are_true, entering_words_stay_lawful}, Lists.put_all, MachineSteps.machine_steps_stay_lawful, NotesStay.{adds_of, history_is, notes_stay_lawful}, OpensAll.epochs_open_lawful, OwnerLooks.owners_look, Present.unpacked_is, Publishes.publishes_stay_lawful, Puts.puts_stay_lawful, Seals.{sealed_passes_stay_lawful, seals_stay_lawful}, Sets.{clear_slots_count_as_set, sets_stay_lawful}, Sights.{arrivals_keep_notes, asides_stay_lawful, glances_stay_lawful, publishes_keep_notes, sights_stay_lawful}, Taking.{gives_stay_lawful, entering_words_are_loaded, others_are_elsewhere, owners_look_away, takes_stay_lawful}, Time.{arrivals_keep_time, asides_keep_time, entries_keep_time, loaded_entering_words_keep_time, looks_keep_time, entering_words_keep_time, not_again, one_aside, publishes_keep_time, puts_keep_time, puts_nobody, set_puts, steps_keep_sites}}
 use Rattle.partial_epochs.specs.EveryStep.Move.{Looks, Publishes}
 
 module _ (e : Plan) (words : List ℕ) (ports : ℕ → Port) (b : Beside) (notes : ℕ → List Noted) (k : ℕ) (w : LawfulMemory e words ports b notes) (below : k < e.ports) where
@@ -32,7 +32,7 @@ module _ (e : Plan) (words : List ℕ) (ports : ℕ → Port) (b : Beside) (note
 
   -- a port that has seen another current epoch
   keeps_passed : Keeps words (put k (having_passed (ports k)) ports) b
-  keeps_passed = keeps_words (having_passed (ports k)) refl refl (λ j a may. record { owned = may.owned; is = may.is; port = may.port; mark = may.mark; again = may.again })
+  keeps_passed = keeps_words (having_passed (ports k)) refl refl (λ j a may. record { owned = may.owned; is = may.is; port = may.port; entering_word = may.entering_word; again = may.again })
 
   keeps_machine : (c : CoreState) (step : Step) (more : Bool) (lead : MachineLeads e words ports b k c step) → Keeps (moved_words e words (ports k) k (Makes c step more)) (put k lead.port ports) lead.beside
   keeps_machine c step more lead =
@@ -150,19 +150,19 @@ module _ (e : Plan) (words : List ℕ) (ports : ℕ → Port) (b : Beside) (note
         | inr past ↦ aside (LooksAsOwner o) (λ there is. is) words (having_passed (ports k)) b (here (having_passed (ports k)) refl refl refl) keeps_passed
             (λ a. (sym (ap after past.0), a, refl)) (owners_look_away e words ports b k o w.epochs below may.0 past.1)
       ])
-  every_step StoresMark may =
-      let p : Port = record (ports k) { control = record (ports k).control { entering = Marks } } in
-      aside StoresMark (λ there is. is) (moved_words e words (ports k) k StoresMark) p b (here p refl refl refl)
-      (λ since t. marks_keep_time e words ports b k since w.epochs below may.0 may.2 t) (λ a. (refl, a, refl)) (marks_stay_lawful e words ports b k w.epochs below may.0 may.1 may.2)
+  every_step StoresEnteringWord may =
+      let p : Port = record (ports k) { control = record (ports k).control { entering = StoredEntering } } in
+      aside StoresEnteringWord (λ there is. is) (moved_words e words (ports k) k StoresEnteringWord) p b (here p refl refl refl)
+      (λ since t. entering_words_keep_time e words ports b k since w.epochs below may.0 may.2 t) (λ a. (refl, a, refl)) (entering_words_stay_lawful e words ports b k w.epochs below may.0 may.1 may.2)
   every_step LoadsCurrent may =
       let p : Port = record (ports k) { control = record (ports k).control { entering = Loaded (site_now b) } } in
       let to = entries_load e words ports b k w.epochs below may in
       let site : unpacked (slice_index words current_word) ≡ site_now b = ap unpacked to.0 ∙ unpacked_is (site_now b) w.epochs.plan.arenas w.epochs.control.site.arena in
       aside LoadsCurrent (λ there is. is) words p b (here p refl refl refl) (λ since t. entries_keep_time e words ports b k since below t)
       (λ a. (ap (λ (c : Site). record (ports k) { control = record (ports k).control { entering = Loaded c } }) (sym site), a, refl)) to.1
-  every_step (ExchangesMark c) may =
+  every_step (ExchangesEnteringWord c) may =
       let a = arrivals_stay_lawful e words ports b k c w.epochs below may in
-      goes (ExchangesMark c) (moved_words e words (ports k) k (ExchangesMark c)) (arrived_port e k a.site a.before) b a.later (sym (append-nil (one_history b)))
+      goes (ExchangesEnteringWord c) (moved_words e words (ports k) k (ExchangesEnteringWord c)) (arrived_port e k a.site a.before) b a.later (sym (append-nil (one_history b)))
       (λ since t. (arrivals_keep_time e words ports b k c since w.epochs below may t a).1) (arrivals_keep_notes e words ports b notes k c w below a)
       (a, refl, refl, refl, λ since t. (arrivals_keep_time e words ports b k c since w.epochs below may t a).0)
   every_step (Takes x) may =
@@ -179,15 +179,15 @@ module _ (e : Plan) (words : List ℕ) (ports : ℕ → Port) (b : Beside) (note
       aside (FindsElsewhere o d) (λ there is. is) words (having_put (ports k) o) b (here (having_put (ports k) o) refl refl refl)
       (keeps_words (having_put (ports k) o) refl refl (λ j a may. absurd (not_again (having_put (ports k) o).control (at_next_port o) j a refl refl may))) (λ a. (refl, a, refl))
       (others_are_elsewhere e words ports b k o d w.epochs below may.0 may.1 may.2 may.3 may.4 may.5 may.6)
-  every_step (LoadsMark o) may =
+  every_step (LoadsEnteringWord o) may =
       let d : Site = (ports o.clean).control.here in
       let p : Port = owning_port (ports k) (having_loaded o d) in
-      let to = marks_are_loaded e words ports b k o w.epochs below may.0 may.1 may.2 in
+      let to = entering_words_are_loaded e words ports b k o w.epochs below may.0 may.1 may.2 in
       let at = to.0 in
-      let site : unpacked (slice_index words (at_word o.clean) - entering_mark) ≡ d =
+      let site : unpacked (slice_index words (at_word o.clean) - entering_bit) ≡ d =
       ap unpacked (omega (arith, at)) ∙ unpacked_is d w.epochs.plan.arenas (w.epochs.control.sites o.clean may.1).arena in
-      aside (LoadsMark o) (λ there is. is) words p b (here p refl refl refl)
-      (λ since t. loaded_marks_keep_time e words ports (site_now b) d k o since below t) (λ a. (ap (λ (c : Site). owning_port (ports k) (having_loaded o c)) (sym site), a, refl)) to.1
+      aside (LoadsEnteringWord o) (λ there is. is) words p b (here p refl refl refl)
+      (λ since t. loaded_entering_words_keep_time e words ports (site_now b) d k o since below t) (λ a. (ap (λ (c : Site). owning_port (ports k) (having_loaded o c)) (sym site), a, refl)) to.1
   every_step (Puts o a) may =
       aside (Puts o a) (λ there is. is) (moved_words e words (ports k) k (Puts o a)) (having_put (ports k) o) b (here (having_put (ports k) o) refl refl refl)
       (λ since t. puts_keep_time e words ports b k o a since w.epochs below may.0 may.2 may.4 may.5 may.6 t) (λ a. (refl, a, refl))

@@ -1,5 +1,5 @@
 -- Arenas come free a bounded number of times in an epoch, and not all arenas are in use.
-use Rattle.partial_epochs.proofs.{Common.{ℕ, ◌≡◌, ◌≢◌, ◌+◌, ◌*◌, ◌%◌, ◌<◌, ◌≤◌, ◌==◌, ◌⊎◌, Bool, true, false, if◌then◌else◌, nat_lt, Option, Some, None, List, slice_index, refl, sym, ap, subst, ◌∙◌, inl, inr, arith, cases_lt, eqb_tells, some_same, put, Plan, arena_limit, at_word, control_words, entering_mark, packed, unpacked, Entering, OwnedArena, Port, Stands, Marks, Loaded, IsSiteWord}, Entering.cw_at, Lists.{put_all, put_other, put_same}, Sums.{pigeonhole, sum_few}, Weights.credit_few}
+use Rattle.partial_epochs.proofs.{Common.{ℕ, ◌≡◌, ◌≢◌, ◌+◌, ◌*◌, ◌%◌, ◌<◌, ◌≤◌, ◌==◌, ◌⊎◌, Bool, true, false, if◌then◌else◌, nat_lt, Option, Some, None, List, slice_index, refl, sym, ap, subst, ◌∙◌, inl, inr, arith, cases_lt, eqb_tells, some_same, put, Plan, arena_limit, at_word, control_words, entering_bit, packed, unpacked, Entering, OwnedArena, Port, Stands, StoredEntering, Loaded, IsSiteWord}, Entering.cw_at, Lists.{put_all, put_other, put_same}, Sums.{pigeonhole, sum_few}, Weights.credit_few}
 use Rattle.partial_epochs.specs.FreeArenas.{FewComeFree, IsInUse, KeepsTally, OwnSitesAreInUse, OwnedArenasAreInUse, SomeArenaIsFree, Tally, credit, gives_at, gives_left, weight}
 
 -- a port that comes from another epoch gives back at most two arenas first
@@ -12,12 +12,12 @@ gives_few Stands false (Some o) = by o.looked
     by : (c : Bool) → (if c then 2 else 1) ≤ 2
     by true = omega arith
     by false = omega arith
-gives_few Marks past o = omega arith
+gives_few StoredEntering past o = omega arith
 gives_few (Loaded c) past o = omega arith
 
 -- by one port arenas come free at most so often
 weight_few : (e : Plan) (words : List ℕ) (ports : ℕ → Port) (now : ℕ) (since : ℕ → ℕ) (t : Tally) (k : ℕ) → weight e words ports now since t k ≤ 2 * e.ports + 3
-weight_few e words ports now since t k = by (nat_lt (slice_index words (at_word k)) entering_mark) ((unpacked (slice_index words (at_word k))).epoch == now) (nat_lt (since k) now)
+weight_few e words ports now since t k = by (nat_lt (slice_index words (at_word k)) entering_bit) ((unpacked (slice_index words (at_word k))).epoch == now) (nat_lt (since k) now)
   where
     by : (stands here older : Bool) → (if stands then (if here then credit t k (ports k).control.owned else (e.ports + 1) + gives_left (ports k).control)
         else (if older then 2 * e.ports + 3 else e.ports + 1)) ≤ 2 * e.ports + 3

@@ -1,5 +1,5 @@
 -- What the words of an epoch hold last, and that it stays.
-use Rattle.partial_epochs.proofs.{Common.{ℕ, ◌≡◌, ◌≢◌, ◌+◌, ◌<◌, ◌≤◌, ◌==◌, ◌⊎◌, ◌++◌, Bool, true, false, if◌then◌else◌, Option, Some, None, List, [], ◌∷◌, length, take, slice_index, refl, sym, ap, subst, ◌∙◌, inl, inr, arith, AllByRecursion, option_map_or, eqb_tells, take_all, Applied, Opening, initial_stamp, stamp_of, value_of, stamp_all, total, lawful_records_are_within, list_of, Plan, IsSealed, arena_words, base, component_words, plain, unsealed, history_of, opened_after, Port, Stands, Beside, IsStanding, LawfulEpochs, ComponentsNameRecords, LastWordsAreFinal, TellTheLast, read_stamp, behind_both, value_word, view_word, records_within, value_behind_stamp}, Continue.{epochs_continue, history_took, reads_tell_all_epochs}, Offsets.below_whole, Worded.{plain_at, plain_component, plain_other}}
+use Rattle.partial_epochs.proofs.{Common.{ℕ, ◌≡◌, ◌≢◌, ◌+◌, ◌<◌, ◌≤◌, ◌==◌, ◌⊎◌, ◌++◌, Bool, true, false, if◌then◌else◌, Option, Some, None, List, [], ◌∷◌, length, take, slice_index, refl, sym, ap, subst, ◌∙◌, inl, inr, arith, AllByRecursion, option_map_or, eqb_tells, take_all, Applied, Opening, initial_stamp, stamp_of, value_of, stamp_all, total, lawful_records_are_within, list_of, Plan, IsSealed, arena_words, base, component_words, plain, unsealed, history_of, opened_after, Port, Stands, Beside, IsStanding, LawfulEpochs, ComponentsNameRecords, LastWordsAreFinal, NameTheLast, read_stamp, behind_both, value_word, view_word, records_within, value_behind_stamp}, Continue.{epochs_continue, history_took, reads_answer_over_epochs}, Offsets.below_whole, Worded.{plain_at, plain_component, plain_other}}
 use Rattle.partial_model.specs.History.{last_from}
 use Rattle.partial_core.specs.Lawful as one
 
@@ -101,14 +101,14 @@ module _ (e : Plan) (words : List ℕ) (ports : ℕ → Port) (b : Beside) (k j 
   public =
       let n : ℕ = length s.epoch.log in
       let all : take (length s.epoch.log) s.epoch.log ≡ s.epoch.log = take_all (length s.epoch.log) s.epoch.log (omega arith) in
-      let told = reads_tell_all_epochs e words ports b k j (length s.epoch.log) w below stands inside s (omega arith) in
+      let told = reads_answer_over_epochs e words ports b k j (length s.epoch.log) w below stands inside s (omega arith) in
       ap (read_stamp e words (ports k) j) named
       ∙ ap (λ (h : List Applied). read_stamp e words (ports k) j (stamp_of (opened_after e.opening (ports k).before) h j)) (sym all)
       ∙ told.2
       ∙ ap (λ (h : List Applied). stamp_of e.opening h j) (history_took s.epoch.log (ports k).before (length s.epoch.log))
       ∙ ap (λ (h : List Applied). stamp_of e.opening (history_of (h ∷ (ports k).before)) j) all
 
-  pub tell : TellTheLast e words (ports k) s.epoch.log j
+  pub tell : NameTheLast e words (ports k) s.epoch.log j
   tell = record { stamp = named; value = value; public = public }
 
 pub last_words_are_final : LastWordsAreFinal

@@ -2,7 +2,7 @@
 use Rattle.std.proofs.lemmas.Bool.{eq-eqb, ne_eqb}
 use Rattle.partial_epochs.proofs.{Common.{ℕ, ◌≡◌, ◌≢◌, ◌+◌, ◌*◌, ◌%◌, ◌^◌, ◌<◌, ◌≤◌, ◌==◌, ◌⊎◌, ◌++◌, Bool, true, false, if◌then◌else◌, Some, List, [], ◌∷◌, length, slice_index, slice_set, refl, sym, ap, subst, ◌∙◌, inl, inr, arith, ◌&&◌, ◌||◌, nat_lt, AllByRecursion, cases_lt, lt-ltb, eqb_tells, get_or-set_same, get_or-set_other, Applied, Opening, Step, Load, Store, Exchange, Add, Layout, total, pool_counter, slot_counter, greatest_claim, answer_of, word_of, words_after, CoreState, advance, step_of, Part, PartAmong, IsMachineOf, port_of, LeadsOn, added_by, lawful_machines_are_ready, steps_stay_lawful, count, list_of, put, Plan, arena_words, carried_words, component_words, based_step, opened_after, Port, Epoch, Beside, IsArena, IsStanding, LawfulEpochs, IsPresent, awaits_slot, claims_no_more, slot_limit, mul-le-mul_left, MachineLeads, MachineStepsStayLawful, MayClaim, MeetsSeal, ends_over, Stands, not_below, value_word}, Apart.{IsApart, due_apart}, Change.{Changes, beside_then, change_kept}, Lists.{Around, around_of, count_more, count_one, count_same, length_of, put_all, put_other, put_same}, Offsets.below_whole, Present.{by_seal, standing}, Slots.{MayClaimWords, awaits, awaits_same, counted, done, one}, Worded.{Words, worded}}
 use Rattle.partial_core.specs.Lawful as one
-use Rattle.partial_core.specs.Steps.{Tells}
+use Rattle.partial_core.specs.Steps.{StepShows}
 
 or_none : (b c : Bool) → c ≡ false → (b || c) ≡ b
 or_none true c e = refl
@@ -265,9 +265,9 @@ module _ (e : Plan) (words : List ℕ) (ports : ℕ → Port) (b : Beside) (k : 
       | inr free ↦ inr (by_seal e words ports b k w below stands free.0 free.1 free.2)
     ]
 
-    tells : Tells e.sizes (opened_after e.opening (ports k).before) r.log entries (ports k).part c (answer_of bw step) leads.y
-    tells = subst (λ (l : List (List Applied)). Tells e.sizes (opened_after e.opening l) r.log entries (ports k).part c (answer_of bw step) leads.y) s.before
-        (subst (λ (y : Part). Tells e.sizes o r.log entries y c (answer_of bw step) leads.y) s.part leads.tells)
+    tells : StepShows e.sizes (opened_after e.opening (ports k).before) r.log entries (ports k).part c (answer_of bw step) leads.y
+    tells = subst (λ (l : List (List Applied)). StepShows e.sizes (opened_after e.opening l) r.log entries (ports k).part c (answer_of bw step) leads.y) s.before
+        (subst (λ (y : Part). StepShows e.sizes o r.log entries y c (answer_of bw step) leads.y) s.part leads.tells)
 
     pub machine_leads : (¬ MeetsSeal e (component_words e words x) step) → MachineLeads e words ports b k c step
     machine_leads unmet = record {

@@ -1,5 +1,5 @@
 -- A port changes what it knows, and stays where it is.
-use Rattle.partial_epochs.proofs.{Common.{ℕ, ◌≡◌, ◌≢◌, ◌<◌, true, Option, Some, None, IfSome, List, refl, sym, ap, subst, ◌∙◌, put, Plan, Site, IsSite, marked, Control, Entering, OwnedArena, IsSiteWord, IsEarlier, IsOld, IsOut, IsOwner, LawfulControl, MayPut, NotInto}, Lists.put_all}
+use Rattle.partial_epochs.proofs.{Common.{ℕ, ◌≡◌, ◌≢◌, ◌<◌, true, Option, Some, None, IfSome, List, refl, sym, ap, subst, ◌∙◌, put, Plan, Site, IsSite, entering_from, Control, Entering, OwnedArena, IsSiteWord, IsEarlier, IsOld, IsOut, IsOwner, LawfulControl, MayPut, NotInto}, Lists.put_all}
 
 -- port k changes what it knows, and stays where it is
 module _ (e : Plan) (words : List ℕ) (cs : ℕ → Control) (now : Site) (holds : ℕ → Option ℕ) (w : LawfulControl e words cs now holds) (k : ℕ) (below : k < e.ports) (c : Control)
@@ -19,8 +19,8 @@ module _ (e : Plan) (words : List ℕ) (cs : ℕ → Control) (now : Site) (hold
 
   pub out_then : (x q : ℕ) → IsOut e words cs x q → IsOut e words cs' x q
   out_then x q h = record {
-    unmarked = h.unmarked;
-    loaded = λ at. subst (NotInto x) (sym (same_entering q)) (h.loaded (at ∙ ap marked (same_here q)));
+    without_bit = h.without_bit;
+    loaded = λ at. subst (NotInto x) (sym (same_entering q)) (h.loaded (at ∙ ap entering_from (same_here q)));
     put = λ p a low may at. subst (λ (d : Site). d.arena ≢ x) (sym (same_here p)) (h.put p a low (puts_then p q a may) at);
   }
 
@@ -34,9 +34,9 @@ module _ (e : Plan) (words : List ℕ) (cs : ℕ → Control) (now : Site) (hold
     order = h.order;
     few = h.few;
     out = λ p low within ne. out_then o.arena p (h.out p low within ne);
-    older = λ again. subst (λ (d : Site). IfSome o.mark (λ a. a.epoch < d.epoch)) (sym (same_here q)) (h.older again);
-    held = subst (λ (d : Site). IfSome o.mark (λ a. IsSite e a × IsEarlier a d (cs' o.clean).entering)) (sym (same_here o.clean))
-        (subst (λ (t : Entering). IfSome o.mark (λ a. IsSite e a × IsEarlier a (cs o.clean).here t)) (sym (same_entering o.clean)) h.held);
+    older = λ again. subst (λ (d : Site). IfSome o.entering_word (λ a. a.epoch < d.epoch)) (sym (same_here q)) (h.older again);
+    held = subst (λ (d : Site). IfSome o.entering_word (λ a. IsSite e a × IsEarlier a d (cs' o.clean).entering)) (sym (same_here o.clean))
+        (subst (λ (t : Entering). IfSome o.entering_word (λ a. IsSite e a × IsEarlier a (cs o.clean).here t)) (sym (same_entering o.clean)) h.held);
     all = h.all;
     none = h.none;
   }
@@ -58,7 +58,7 @@ module _ (e : Plan) (words : List ℕ) (cs : ℕ → Control) (now : Site) (hold
     past = λ q low. put_all (λ i (d : Control). i < e.ports → d.past ≡ true → d.here.epoch < now.epoch) k c cs q
         (λ _ _ is. subst (λ (d : Site). d.epoch < now.epoch) (sym here) (past is)) (λ _ low. w.past q low) low;
     stands = w.stands;
-    comes = λ q d low is at. w.comes q d low (sym (same_entering q) ∙ is) (at ∙ ap marked (same_here q));
+    comes = λ q d low is at. w.comes q d low (sym (same_entering q) ∙ is) (at ∙ ap entering_from (same_here q));
     owners = λ q low. put_all (λ i (d : Control). i < e.ports → IfSome d.owned (IsOwner e words cs' now holds i)) k c cs q
         (λ _ _. owner_of k c.owned own) (λ _ low. owner_of q (cs q).owned (w.owners q low)) low;
   }

@@ -52,7 +52,7 @@ module _ (e : Plan) (words : List ℕ) (ports : ℕ → Port) (b : Beside) (k : 
   no_puts : (c : Control) (j : ℕ) (a : Site) → c.owned ≡ Some (resting_arena o) → MayPut c j a → ⊥
   no_puts c j a is may =
       let same : resting_arena o ≡ may.owned = some_same (sym is ∙ may.is) in
-      let bad : None ≡ Some a = ap (λ (t : OwnedArena). t.mark) same ∙ may.mark in
+      let bad : None ≡ Some a = ap (λ (t : OwnedArena). t.entering_word) same ∙ may.entering_word in
       cc
 
   rests_setting : (l : List ℕ) (d : Beside) (p : Port) → IsSetting e l d p (resting_arena o)
@@ -109,7 +109,7 @@ module _ (e : Plan) (words : List ℕ) (ports : ℕ → Port) (b : Beside) (k : 
         let mine : slice_index (control_words e words) (at_word q) ≡ packed (ports q).control.here = subst (IsSiteWord e (control_words e words) q (ports q).control.here) stands (w.control.at q low) in
         elim (eqb_tells q k) [
           | inl same ↦ λ is. looked (sym here_arena.1 ∙ ap (λ i. (ports i).control.here.arena) (sym same.1) ∙ is)
-          | inr ne ↦ (out q low ne.1).unmarked (ports q).control.here (w.control.sites q low) mine
+          | inr ne ↦ (out q low ne.1).without_bit (ports q).control.here (w.control.sites q low) mine
         ]
 
     -- each other arena that is owned isn't this one

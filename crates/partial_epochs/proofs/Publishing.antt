@@ -1,5 +1,5 @@
 -- The control words as the next epoch is published.
-use Rattle.partial_epochs.proofs.{Common.{ℕ, ◌≡◌, ◌≢◌, ◌+◌, ◌<◌, ◌≤◌, ◌⊎◌, true, false, Option, Some, None, IfSome, List, length, slice_index, slice_set, refl, sym, ap, subst, ◌∙◌, inl, inr, arith, eqb_tells, get_or-set_same, get_or-set_other, some_same, put, Plan, Site, IsSite, at_word, control_size, current_word, packed, arena_limit, epoch_limit, Control, Entering, OwnedArena, IsSiteWord, IsStillMarked, IsOld, IsOut, IsOwner, LawfulControl, NotInto, Stands, Marks, Loaded}, Offsets.packed_arena, Lists.{put_all, put_other, put_same}}
+use Rattle.partial_epochs.proofs.{Common.{ℕ, ◌≡◌, ◌≢◌, ◌+◌, ◌<◌, ◌≤◌, ◌⊎◌, true, false, Option, Some, None, IfSome, List, length, slice_index, slice_set, refl, sym, ap, subst, ◌∙◌, inl, inr, arith, eqb_tells, get_or-set_same, get_or-set_other, some_same, put, Plan, Site, IsSite, at_word, control_size, current_word, packed, arena_limit, epoch_limit, Control, Entering, OwnedArena, IsSiteWord, IsStillEntering, IsOld, IsOut, IsOwner, LawfulControl, NotInto, Stands, StoredEntering, Loaded}, Offsets.packed_arena, Lists.{put_all, put_other, put_same}}
 
 -- the next epoch is published in the arena x, of which all ports but k are out, and in which k isn't
 module _ (e : Plan) (words : List ℕ) (cs : ℕ → Control) (now : Site) (holds : ℕ → Option ℕ) (w : LawfulControl e words cs now holds) (k : ℕ) (below : k < e.ports) (x : ℕ) (inside : x < e.arenas)
@@ -23,7 +23,7 @@ module _ (e : Plan) (words : List ℕ) (cs : ℕ → Control) (now : Site) (hold
   not_stood : (q : ℕ) (d : Site) → q < e.ports → IsSite e d → slice_index words (at_word q) ≡ packed d → d.arena ≢ x
   not_stood q d low site at = elim (eqb_tells q k) [
     | inl same ↦ own (subst (λ i. slice_index words (at_word i) ≡ packed d) same.1 at)
-    | inr ne ↦ (out q low ne.1).unmarked d site at
+    | inr ne ↦ (out q low ne.1).without_bit d site at
   ]
     where
       own : slice_index words (at_word k) ≡ packed d → d.arena ≢ x
@@ -35,7 +35,7 @@ module _ (e : Plan) (words : List ℕ) (cs : ℕ → Control) (now : Site) (hold
 
   out_then : (y q : ℕ) → IsOut e words cs y q → IsOut e words' cs y q
   out_then y q h = record {
-    unmarked = λ d site at. h.unmarked d site (sym (other (at_word q) (omega arith)) ∙ at);
+    without_bit = λ d site at. h.without_bit d site (sym (other (at_word q) (omega arith)) ∙ at);
     loaded = λ at. h.loaded (sym (other (at_word q) (omega arith)) ∙ at);
     put = λ p a low may at. h.put p a low may (sym (other (at_word q) (omega arith)) ∙ at);
   }
@@ -68,18 +68,18 @@ module _ (e : Plan) (words : List ℕ) (cs : ℕ → Control) (now : Site) (hold
 
   at_then : (q : ℕ) (d : Site) (t : Entering) → IsSiteWord e words q d t → IsSiteWord e words' q d t
   at_then q d Stands h = other (at_word q) (omega arith) ∙ h
-  at_then q d Marks (inl h) = inl (other (at_word q) (omega arith) ∙ h)
-  at_then q d Marks (inr h) = inr (h.0, h.1, other (at_word q) (omega arith) ∙ h.2, h.3)
+  at_then q d StoredEntering (inl h) = inl (other (at_word q) (omega arith) ∙ h)
+  at_then q d StoredEntering (inr h) = inr (h.0, h.1, other (at_word q) (omega arith) ∙ h.2, h.3)
   at_then q d (Loaded f) (inl h) = inl (other (at_word q) (omega arith) ∙ h)
   at_then q d (Loaded f) (inr h) = inr (h.0, h.1, other (at_word q) (omega arith) ∙ h.2, h.3)
 
   old_then : (d : Site) (t : Entering) → IsOld e now.epoch d t → IsOld e (now.epoch + 1) d t
   old_then d Stands h = omega (arith, h)
-  old_then d Marks h = omega (arith, h)
+  old_then d StoredEntering h = omega (arith, h)
   old_then d (Loaded f) h = let less = h.1 in (h.0, omega (arith, less), h.2)
 
   -- where a port is about to come isn't the arena x
-  not_coming : (q : ℕ) (d : Site) → q < e.ports → (cs q).entering ≡ Loaded d → IsStillMarked words (cs q) q → d.arena ≢ x
+  not_coming : (q : ℕ) (d : Site) → q < e.ports → (cs q).entering ≡ Loaded d → IsStillEntering words (cs q) q → d.arena ≢ x
   not_coming q d low is at = elim (eqb_tells q k) [
     | inl same ↦ let bad : Stands ≡ Loaded d = sym stands ∙ sym (ap (λ i. (cs i).entering) same.1) ∙ is in absurd cc
     | inr ne ↦ subst (NotInto x) is ((out q low ne.1).loaded at)

@@ -1,10 +1,10 @@
 -- A port puts another one where it stands itself.
-use Rattle.partial_epochs.proofs.{Common.{ℕ, ◌≡◌, ◌≢◌, ◌+◌, ◌<◌, ◌≤◌, ◌==◌, ◌⊎◌, Bool, true, false, if◌then◌else◌, Option, Some, None, IfSome, List, length, slice_index, slice_set, refl, sym, ap, subst, ◌∙◌, inl, inr, arith, eqb_tells, get_or-set_same, get_or-set_other, length-set, put, Plan, Site, IsSite, at_word, control_size, control_words, current_word, marked, packed, arena_limit, Control, Entering, OwnedArena, Port, IsSiteWord, IsEarlier, IsStillMarked, IsOut, IsOwner, LawfulControl, MayPut, Beside, LawfulEpochs, controls, numbers, site_now, PutsStayLawful, at_next_port, having_put, Stands, Marks, Loaded}, Entering.{control_lifted, cw_at, cw_long, marked_epoch, not_marked}, Lists.set_of, Owning.knows_more, Offsets.packed_arena, Present.same_site}
+use Rattle.partial_epochs.proofs.{Common.{ℕ, ◌≡◌, ◌≢◌, ◌+◌, ◌<◌, ◌≤◌, ◌==◌, ◌⊎◌, Bool, true, false, if◌then◌else◌, Option, Some, None, IfSome, List, length, slice_index, slice_set, refl, sym, ap, subst, ◌∙◌, inl, inr, arith, eqb_tells, get_or-set_same, get_or-set_other, length-set, put, Plan, Site, IsSite, at_word, control_size, control_words, current_word, entering_from, packed, arena_limit, Control, Entering, OwnedArena, Port, IsSiteWord, IsEarlier, IsStillEntering, IsOut, IsOwner, LawfulControl, MayPut, Beside, LawfulEpochs, controls, numbers, site_now, PutsStayLawful, at_next_port, having_put, Stands, StoredEntering, Loaded}, Entering.{control_lifted, cw_at, cw_long, entering_epoch, not_entering_word}, Lists.set_of, Owning.knows_more, Offsets.packed_arena, Present.same_site}
 
 -- the word of port q is set, which port k holds the entering word of
 module _ (e : Plan) (words : List ℕ) (cs : ℕ → Control) (now : Site) (holds : ℕ → Option ℕ) (w : LawfulControl e words cs now holds) (k : ℕ) (below : k < e.ports) (o : OwnedArena) (a : Site)
     (few : e.arenas ≤ arena_limit) (long : length words ≡ control_size e) (owned : (cs k).owned ≡ Some o) (within : o.clean < e.ports) (none : o.set ≡ 0) (looked : o.looked ≡ true)
-    (mark : o.mark ≡ Some a) (again : o.again ≡ true) (there : slice_index words (at_word o.clean) ≡ marked a) where
+    (entering_word : o.entering_word ≡ Some a) (again : o.again ≡ true) (there : slice_index words (at_word o.clean) ≡ entering_from a) where
   abbrev words' : List ℕ
   words' = slice_set words (at_word o.clean) (packed (cs k).here)
 
@@ -18,13 +18,13 @@ module _ (e : Plan) (words : List ℕ) (cs : ℕ → Control) (now : Site) (hold
   mine = subst (IsSiteWord e words k (cs k).here) own.stands (w.at k below)
 
   may : MayPut (cs k) o.clean a
-  may = record { owned = o; is = owned; port = refl; mark = mark; again = again }
+  may = record { owned = o; is = owned; port = refl; entering_word = entering_word; again = again }
 
   held : IsSite e a × IsEarlier a (cs o.clean).here (cs o.clean).entering
-  held = subst (λ (m : Option Site). IfSome m (λ a. IsSite e a × IsEarlier a (cs o.clean).here (cs o.clean).entering)) mark own.held
+  held = subst (λ (m : Option Site). IfSome m (λ a. IsSite e a × IsEarlier a (cs o.clean).here (cs o.clean).entering)) entering_word own.held
 
   older : a.epoch < (cs k).here.epoch
-  older = subst (λ (m : Option Site). IfSome m (λ a. a.epoch < (cs k).here.epoch)) mark (own.older again)
+  older = subst (λ (m : Option Site). IfSome m (λ a. a.epoch < (cs k).here.epoch)) entering_word (own.older again)
 
   set_at : slice_index words' (at_word o.clean) ≡ packed (cs k).here
   set_at = get_or-set_same words (at_word o.clean) (packed (cs k).here) 0 (omega (arith, long, within))
@@ -40,9 +40,9 @@ module _ (e : Plan) (words : List ℕ) (cs : ℕ → Control) (now : Site) (hold
 
   out_q : (x : ℕ) → (cs k).here.arena ≢ x → IsOut e words' cs x o.clean
   out_q x ne = record {
-    unmarked = λ d there is. subst (λ (d : Site). d.arena ≢ x) (is_here d there (sym set_at ∙ is)) ne;
-    loaded = λ is. absurd (not_marked e (cs k).here (cs o.clean).here few site (sym set_at ∙ is));
-    put = λ p a low may is. absurd (not_marked e (cs k).here a few site (sym set_at ∙ is));
+    without_bit = λ d there is. subst (λ (d : Site). d.arena ≢ x) (is_here d there (sym set_at ∙ is)) ne;
+    loaded = λ is. absurd (not_entering_word e (cs k).here (cs o.clean).here few site (sym set_at ∙ is));
+    put = λ p a low may is. absurd (not_entering_word e (cs k).here a few site (sym set_at ∙ is));
   }
 
   out_then : (x r : ℕ) → IsOut e words cs x r → IsOut e words' cs x r
@@ -51,7 +51,7 @@ module _ (e : Plan) (words : List ℕ) (cs : ℕ → Control) (now : Site) (hold
         let was : IsOut e words cs x o.clean = subst (IsOut e words cs x) same.1 h in
         subst (IsOut e words' cs x) (sym same.1) (out_q x (was.put k a below may there))
     | inr ne ↦ record {
-      unmarked = λ d site at. h.unmarked d site (sym (other_at r ne.1) ∙ at);
+      without_bit = λ d site at. h.without_bit d site (sym (other_at r ne.1) ∙ at);
       loaded = λ at. h.loaded (sym (other_at r ne.1) ∙ at);
       put = λ p a low may at. h.put p a low may (sym (other_at r ne.1) ∙ at);
     }
@@ -78,18 +78,18 @@ module _ (e : Plan) (words : List ℕ) (cs : ℕ → Control) (now : Site) (hold
   owner_of r (Some t) h = owner_then r t h
 
   at_q : (t : Entering) → (cs o.clean).entering ≡ t → IsSiteWord e words o.clean (cs o.clean).here t → IsSiteWord e words' o.clean (cs o.clean).here t
-  at_q Stands is h = absurd (not_marked e (cs o.clean).here a few (w.sites o.clean within) (sym h ∙ there))
-  at_q Marks is (inl h) = let same = marked_epoch e a (cs o.clean).here few held.0 (w.sites o.clean within) (sym there ∙ h) in let less = older in
+  at_q Stands is h = absurd (not_entering_word e (cs o.clean).here a few (w.sites o.clean within) (sym h ∙ there))
+  at_q StoredEntering is (inl h) = let same = entering_epoch e a (cs o.clean).here few held.0 (w.sites o.clean within) (sym there ∙ h) in let less = older in
       inr ((cs k).here, site, set_at, omega (arith, same, less))
-  at_q Marks is (inr h) = absurd (not_marked e h.0 a few h.1 (sym h.2 ∙ there))
-  at_q (Loaded d) is (inl h) = let same = marked_epoch e a (cs o.clean).here few held.0 (w.sites o.clean within) (sym there ∙ h) in let less = older in
+  at_q StoredEntering is (inr h) = absurd (not_entering_word e h.0 a few h.1 (sym h.2 ∙ there))
+  at_q (Loaded d) is (inl h) = let same = entering_epoch e a (cs o.clean).here few held.0 (w.sites o.clean within) (sym there ∙ h) in let less = older in
       inr ((cs k).here, site, set_at, omega (arith, same, less))
-  at_q (Loaded d) is (inr h) = absurd (not_marked e h.0 a few h.1 (sym h.2 ∙ there))
+  at_q (Loaded d) is (inr h) = absurd (not_entering_word e h.0 a few h.1 (sym h.2 ∙ there))
 
   at_other : (r : ℕ) (d : Site) (t : Entering) → r ≢ o.clean → IsSiteWord e words r d t → IsSiteWord e words' r d t
   at_other r d Stands ne h = other_at r ne ∙ h
-  at_other r d Marks ne (inl h) = inl (other_at r ne ∙ h)
-  at_other r d Marks ne (inr h) = inr (h.0, h.1, other_at r ne ∙ h.2, h.3)
+  at_other r d StoredEntering ne (inl h) = inl (other_at r ne ∙ h)
+  at_other r d StoredEntering ne (inr h) = inr (h.0, h.1, other_at r ne ∙ h.2, h.3)
   at_other r d (Loaded f) ne (inl h) = inl (other_at r ne ∙ h)
   at_other r d (Loaded f) ne (inr h) = inr (h.0, h.1, other_at r ne ∙ h.2, h.3)
 
@@ -105,9 +105,9 @@ module _ (e : Plan) (words : List ℕ) (cs : ℕ → Control) (now : Site) (hold
     | inr ne ↦ w.stands r d low there (sym (other_at r ne.1) ∙ at)
   ]
 
-  comes_then : (r : ℕ) (d : Site) → r < e.ports → (cs r).entering ≡ Loaded d → IsStillMarked words' (cs r) r → holds d.arena ≡ Some d.epoch
+  comes_then : (r : ℕ) (d : Site) → r < e.ports → (cs r).entering ≡ Loaded d → IsStillEntering words' (cs r) r → holds d.arena ≡ Some d.epoch
   comes_then r d low is at = elim (eqb_tells r o.clean) [
-    | inl same ↦ absurd (not_marked e (cs k).here (cs r).here few site (sym set_at ∙ sym (ap (λ i. slice_index words' (at_word i)) same.1) ∙ at))
+    | inl same ↦ absurd (not_entering_word e (cs k).here (cs r).here few site (sym set_at ∙ sym (ap (λ i. slice_index words' (at_word i)) same.1) ∙ at))
     | inr ne ↦ w.comes r d low is (sym (other_at r ne.1) ∙ at)
   ]
 
@@ -153,14 +153,14 @@ module _ (e : Plan) (words : List ℕ) (cs : ℕ → Control) (now : Site) (hold
   no_puts : (j : ℕ) (d : Site) → MayPut c j d → ⊥
   no_puts j d may =
       let same : at_next_port o ≡ may.owned = cc in
-      let bad : None ≡ Some d = ap (λ (t : OwnedArena). t.mark) same ∙ may.mark in
+      let bad : None ≡ Some d = ap (λ (t : OwnedArena). t.entering_word) same ∙ may.entering_word in
       cc
 
   pub puts_on : LawfulControl e words' (put k c cs) now holds
   puts_on = knows_more e words' cs now holds helped k below c refl refl (w.past k below) (λ j d may. absurd (no_puts j d may)) own_at_next_port
 
 module _ (e : Plan) (words : List ℕ) (ports : ℕ → Port) (b : Beside) (k : ℕ) (o : OwnedArena) (a : Site) (w : LawfulEpochs e words ports b) (below : k < e.ports) (owned : (ports k).control.owned ≡ Some o)
-    (looked : o.looked ≡ true) (within : o.clean < e.ports) (none : o.set ≡ 0) (mark : o.mark ≡ Some a) (again : o.again ≡ true) (there : slice_index words (at_word o.clean) ≡ marked a) where
+    (looked : o.looked ≡ true) (within : o.clean < e.ports) (none : o.set ≡ 0) (entering_word : o.entering_word ≡ Some a) (again : o.again ≡ true) (there : slice_index words (at_word o.clean) ≡ entering_from a) where
   abbrev put_to : ℕ
   put_to = packed (ports k).control.here
 
@@ -180,7 +180,7 @@ module _ (e : Plan) (words : List ℕ) (ports : ℕ → Port) (b : Beside) (k : 
   put_kept =
       let p' : Port = having_put (ports k) o in
       let at = cw_at e words ports b k (ports k) 0 w below (at_word o.clean) (omega (arith, within)) in
-      let control = puts_on e (control_words e words) (controls ports) (site_now b) (numbers b) w.control k below o a w.plan.arenas (cw_long e words) owned within none looked mark again
+      let control = puts_on e (control_words e words) (controls ports) (site_now b) (numbers b) w.control k below o a w.plan.arenas (cw_long e words) owned within none looked entering_word again
       (at ∙ there) in
       let own : IsOwner e (control_words e words) (controls ports) (site_now b) (numbers b) k o =
       subst (λ (t : Option OwnedArena). IfSome t (IsOwner e (control_words e words) (controls ports) (site_now b) (numbers b) k)) owned (w.control.owners k below) in
@@ -192,8 +192,8 @@ module _ (e : Plan) (words : List ℕ) (ports : ℕ → Port) (b : Beside) (k : 
       (omega arith) below
 
 pub puts_stay_lawful : PutsStayLawful
-puts_stay_lawful e words ports b k o a w below owned looked within none mark again there =
-    let won : (slice_index words (at_word o.clean) == marked a) ≡ true = (elim (eqb_tells (slice_index words (at_word o.clean)) (marked a)) [ inl t ↦ t.0 | inr f ↦ absurd (f.1 there) ]) in
+puts_stay_lawful e words ports b k o a w below owned looked within none entering_word again there =
+    let won : (slice_index words (at_word o.clean) == entering_from a) ≡ true = (elim (eqb_tells (slice_index words (at_word o.clean)) (entering_from a)) [ inl t ↦ t.0 | inr f ↦ absurd (f.1 there) ]) in
     subst (λ (t : Bool). LawfulEpochs e (slice_set words (at_word o.clean) (if t then packed (ports k).control.here
     else slice_index words (at_word o.clean))) (put k (having_put (ports k) o) ports) b) (sym won)
-    (put_kept e words ports b k o a w below owned looked within none mark again there)
+    (put_kept e words ports b k o a w below owned looked within none entering_word again there)

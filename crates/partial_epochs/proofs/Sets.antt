@@ -1,5 +1,5 @@
 -- A word of an owned arena is set.
-use Rattle.partial_epochs.proofs.{Common.{ℕ, ◌≡◌, ◌≢◌, ◌+◌, ◌-◌, ◌<◌, ◌≤◌, Bool, if◌then◌else◌, Option, Some, None, IfSome, List, length, slice_index, slice_set, refl, sym, ap, subst, ◌∙◌, inl, inr, arith, option_map, cases_lt, lt-ltb, eqb_tells, get_or-set_other, length-set, first_free, total, put, IsToBeSet, Plan, Site, IsSite, at_word, arena_words, base, carried_word, carried_words, component_words, control_size, control_words, current_word, packed, plain, span, set_word, Control, OwnedArena, Port, Epoch, IsSiteWord, IsStillMarked, IsOwner, LawfulControl, MayPut, NotInto, Beside, IsArena, IsNewPart, IsSetting, IsStanding, LawfulEpochs, controls, next_epoch_word, numbers, site_now, SetsStayLawful, having_set, vacated, Stands, Loaded, ClearSlotsCountAsSet, ClearsSlots, HasClearRecords, HasClearSlots, set-get_or, slot_counter, slot_word, ◌∷◌, stamp_after, opened_after, set_offset, opening_word, slots_open}, ClearRecords.{records_before, records_same}, Lists.{put_all, put_other, put_same, same_of}, Owning.knows_more, Offsets.{bases_up, counter_number, packed_arena, set_apart, set_index, slot_number, slot_offset, slot_set}, Worded.{plain_at, plain_other}}
+use Rattle.partial_epochs.proofs.{Common.{ℕ, ◌≡◌, ◌≢◌, ◌+◌, ◌-◌, ◌<◌, ◌≤◌, Bool, if◌then◌else◌, Option, Some, None, IfSome, List, length, slice_index, slice_set, refl, sym, ap, subst, ◌∙◌, inl, inr, arith, option_map, cases_lt, lt-ltb, eqb_tells, get_or-set_other, length-set, first_free, total, put, IsToBeSet, Plan, Site, IsSite, at_word, arena_words, base, carried_word, carried_words, component_words, control_size, control_words, current_word, packed, plain, span, set_word, Control, OwnedArena, Port, Epoch, IsSiteWord, IsStillEntering, IsOwner, LawfulControl, MayPut, NotInto, Beside, IsArena, IsNewPart, IsSetting, IsStanding, LawfulEpochs, controls, next_epoch_word, numbers, site_now, SetsStayLawful, having_set, vacated, Stands, Loaded, ClearSlotsCountAsSet, ClearsSlots, HasClearRecords, HasClearSlots, set-get_or, slot_counter, slot_word, ◌∷◌, stamp_after, opened_after, set_offset, opening_word, slots_open}, ClearRecords.{records_before, records_same}, Lists.{put_all, put_other, put_same, same_of}, Owning.knows_more, Offsets.{bases_up, counter_number, packed_arena, set_apart, set_index, slot_number, slot_offset, slot_set}, Worded.{plain_at, plain_other}}
 
 -- an arena that port k owns, of which all ports are out, holds no epoch
 module _ (e : Plan) (words : List ℕ) (cs : ℕ → Control) (now : Site) (holds : ℕ → Option ℕ) (w : LawfulControl e words cs now holds) (k : ℕ) (below : k < e.ports) (o : OwnedArena)
@@ -11,7 +11,7 @@ module _ (e : Plan) (words : List ℕ) (cs : ℕ → Control) (now : Site) (hold
   unlike = let h = own in h.looked (h.order (omega (arith, done, below)))
 
   pub not_stood : (q : ℕ) (d : Site) → q < e.ports → IsSite e d → slice_index words (at_word q) ≡ packed d → q ≢ k → d.arena ≢ o.arena
-  not_stood q d low site at ne = let h = own in (h.out q (omega (arith, done, low)) low ne).unmarked d site at
+  not_stood q d low site at ne = let h = own in (h.out q (omega (arith, done, low)) low ne).without_bit d site at
 
   abbrev holds' : ℕ → Option ℕ
   holds' = put o.arena None holds
@@ -27,7 +27,7 @@ module _ (e : Plan) (words : List ℕ) (cs : ℕ → Control) (now : Site) (hold
       | inr ne ↦ not_stood q d low site at ne.1
     ]
 
-    coming : (q : ℕ) (d : Site) → q < e.ports → (cs q).entering ≡ Loaded d → IsStillMarked words (cs q) q → d.arena ≢ o.arena
+    coming : (q : ℕ) (d : Site) → q < e.ports → (cs q).entering ≡ Loaded d → IsStillEntering words (cs q) q → d.arena ≢ o.arena
     coming q d low is at = elim (eqb_tells q k) [
       | inl same ↦ let h = own in let bad : Stands ≡ Loaded d = sym h.stands ∙ sym (ap (λ i. (cs i).entering) same.1) ∙ is in absurd cc
       | inr ne ↦ let h = own in subst (NotInto o.arena) is ((h.out q (omega (arith, done, low)) low ne.1).loaded at)
@@ -79,7 +79,7 @@ module _ (e : Plan) (words : List ℕ) (cs : ℕ → Control) (now : Site) (hold
           owned = o;
           is = owned;
           port = ap (λ (t : OwnedArena). t.clean) same ∙ may.port;
-          mark = ap (λ (t : OwnedArena). t.mark) same ∙ may.mark;
+          entering_word = ap (λ (t : OwnedArena). t.entering_word) same ∙ may.entering_word;
           again = ap (λ (t : OwnedArena). t.again) same ∙ may.again;
         }
 

@@ -1,5 +1,5 @@
 -- The steps that aren't a machine's keep the notes lawful, and a port notes what it has seen by a look.
-use Rattle.partial_epochs.proofs.{Common.{ℕ, ◌≡◌, ◌≢◌, ◌+◌, ◌<◌, ◌≤◌, ◌==◌, ◌⊎◌, ◌++◌, true, false, Option, IfSome, List, [], ◌∷◌, length, refl, sym, ap, subst, ◌∙◌, inl, inr, arith, length-append, AllByRecursion, eqb_tells, append-nil, length-map, Applied, Note, IsLegal, IsTrueOf, LegalNotes, Noted, place_of, seen_after, seen_by, EachOnce, places_by, places_written, wrote, some_same, words_after, Exchange, Part, PartAmong, port_of, with_seen, looks_stay_lawful, count, list_of, put, Site, Plan, arena_words, at_word, carried_words, component_words, marked, packed, history_of, opened_after, public_entry, public_log, Epoch, Port, Stands, Beside, IsArena, IsStanding, LawfulEpochs, awaits_slot, claims_no_more, arrived_port, having_published, next_beside, ArrivalsKeepNotes, AsidesStayLawful, GlanceLeads, GlancesStayLawful, IsEpochHistory, IsSight, LawfulMemory, LawfulNotes, PublishesKeepNotes, EpochReached, SightLeads, SightsStayLawful, having_seen, noting, one_history, seen_of, IsTrueOf-grows, LegalNotes-push, places_written-append, seen_by-push}, Change.{Changes, beside_then, change_kept}, Lists.{Around, around_of, count_same, put_all, put_other, put_same}, OneHistory.{history_grows, present_history}, Present.standing, Seats.{among, reached, reached_grows, seen_few}, Slots.done}
+use Rattle.partial_epochs.proofs.{Common.{ℕ, ◌≡◌, ◌≢◌, ◌+◌, ◌<◌, ◌≤◌, ◌==◌, ◌⊎◌, ◌++◌, true, false, Option, IfSome, List, [], ◌∷◌, length, refl, sym, ap, subst, ◌∙◌, inl, inr, arith, length-append, AllByRecursion, eqb_tells, append-nil, length-map, Applied, Note, IsLegal, IsTrueOf, LegalNotes, Noted, place_of, seen_after, seen_by, EachOnce, places_by, places_written, wrote, some_same, words_after, Exchange, Part, PartAmong, port_of, with_seen, looks_stay_lawful, count, list_of, put, Site, Plan, arena_words, at_word, carried_words, component_words, entering_from, packed, history_of, opened_after, public_entry, public_log, Epoch, Port, Stands, Beside, IsArena, IsStanding, LawfulEpochs, awaits_slot, claims_no_more, arrived_port, having_published, next_beside, ArrivalsKeepNotes, AsidesStayLawful, GlanceLeads, GlancesStayLawful, IsEpochHistory, IsSight, LawfulMemory, LawfulNotes, PublishesKeepNotes, EpochReached, SightLeads, SightsStayLawful, having_seen, noting, one_history, seen_of, IsTrueOf-grows, LegalNotes-push, places_written-append, seen_by-push}, Change.{Changes, beside_then, change_kept}, Lists.{Around, around_of, count_same, put_all, put_other, put_same}, OneHistory.{history_grows, present_history}, Present.standing, Seats.{among, reached, reached_grows, seen_few}, Slots.done}
 use Rattle.partial_core.specs.Lawful as one
 use Rattle.partial_core.specs.Ports.{Looks}
 
@@ -48,7 +48,7 @@ ends (x ∷ l) a (y ∷ m) c is low = let rest : l ++ a ≡ m ++ c = cc in ends 
 pub arrivals_keep_notes : ArrivalsKeepNotes
 arrivals_keep_notes e words ports b notes k c w below a =
     let p : Port = arrived_port e k a.site a.before in
-    let words' = words_after words (Exchange (at_word k) (marked (ports k).control.here) (packed c)) in
+    let words' = words_after words (Exchange (at_word k) (entering_from (ports k).control.here) (packed c)) in
     let there : IsStanding b k p = subst (λ (q : Port). q.control.entering ≡ Stands → IsStanding b k q) (put_same k p ports) (a.lawful.standing k below) refl in
     let am = among e words' (put k p ports) b a.lawful k below p there in
     let old = w.noted.reached k below in

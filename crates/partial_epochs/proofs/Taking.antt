@@ -1,5 +1,5 @@
 -- A port takes an arena and gives it back, finds the others elsewhere, and loads their entering words.
-use Rattle.partial_epochs.proofs.{Common.{ℕ, ◌≡◌, ◌≢◌, ◌+◌, ◌<◌, ◌≤◌, ◌==◌, ◌⊎◌, Bool, true, false, if◌then◌else◌, Option, Some, None, IfSome, List, length, slice_index, slice_set, refl, sym, ap, subst, ◌∙◌, inl, inr, arith, eqb_tells, get_or-set_same, get_or-set_other, length-set, put, Plan, Site, IsSite, at_word, control_size, control_words, current_word, entering_mark, marked, own_word, packed, arena_limit, Control, Entering, OwnedArena, Port, Stands, Marks, Loaded, IsSiteWord, IsEarlier, IsOut, IsOwner, LawfulControl, MayPut, Beside, IsSetting, IsStanding, LawfulEpochs, controls, numbers, site_now, GivesStayLawful, MarksAreLoaded, OthersAreElsewhere, OwnersLookAway, TakesStayLawful, at_next_port, having_given, having_loaded, having_put, just_taken, owning_port, having_passed}, Entering.{control_lifted, current_is, cw_at, cw_long, not_marked}, Lists.{put_all, set_of}, Owning.knows_more, Offsets.packed_arena, Present.same_site}
+use Rattle.partial_epochs.proofs.{Common.{ℕ, ◌≡◌, ◌≢◌, ◌+◌, ◌<◌, ◌≤◌, ◌==◌, ◌⊎◌, Bool, true, false, if◌then◌else◌, Option, Some, None, IfSome, List, length, slice_index, slice_set, refl, sym, ap, subst, ◌∙◌, inl, inr, arith, eqb_tells, get_or-set_same, get_or-set_other, length-set, put, Plan, Site, IsSite, at_word, control_size, control_words, current_word, entering_bit, entering_from, own_word, packed, arena_limit, Control, Entering, OwnedArena, Port, Stands, StoredEntering, Loaded, IsSiteWord, IsEarlier, IsOut, IsOwner, LawfulControl, MayPut, Beside, IsSetting, IsStanding, LawfulEpochs, controls, numbers, site_now, GivesStayLawful, EnteringWordsAreLoaded, OthersAreElsewhere, OwnersLookAway, TakesStayLawful, at_next_port, having_given, having_loaded, having_put, just_taken, owning_port, having_passed}, Entering.{control_lifted, current_is, cw_at, cw_long, not_entering_word}, Lists.{put_all, set_of}, Owning.knows_more, Offsets.packed_arena, Present.same_site}
 
 -- the owner word of an arena that nobody owns is set
 module _ (e : Plan) (words : List ℕ) (cs : ℕ → Control) (now : Site) (holds : ℕ → Option ℕ) (w : LawfulControl e words cs now holds) (x v : ℕ)
@@ -15,15 +15,15 @@ module _ (e : Plan) (words : List ℕ) (cs : ℕ → Control) (now : Site) (hold
 
   out_then : (y q : ℕ) → q < e.ports → IsOut e words cs y q → IsOut e words' cs y q
   out_then y q low h = record {
-    unmarked = λ c site at. h.unmarked c site (sym (at_same q low) ∙ at);
+    without_bit = λ c site at. h.without_bit c site (sym (at_same q low) ∙ at);
     loaded = λ at. h.loaded (sym (at_same q low) ∙ at);
     put = λ p a inside may at. h.put p a inside may (sym (at_same q low) ∙ at);
   }
 
   at_then : (q : ℕ) (d : Site) (t : Entering) → q < e.ports → IsSiteWord e words q d t → IsSiteWord e words' q d t
   at_then q d Stands low h = at_same q low ∙ h
-  at_then q d Marks low (inl h) = inl (at_same q low ∙ h)
-  at_then q d Marks low (inr h) = inr (h.0, h.1, at_same q low ∙ h.2, h.3)
+  at_then q d StoredEntering low (inl h) = inl (at_same q low ∙ h)
+  at_then q d StoredEntering low (inr h) = inr (h.0, h.1, at_same q low ∙ h.2, h.3)
   at_then q d (Loaded f) low (inl h) = inl (at_same q low ∙ h)
   at_then q d (Loaded f) low (inr h) = inr (h.0, h.1, at_same q low ∙ h.2, h.3)
 
@@ -80,7 +80,7 @@ module _ (e : Plan) (words : List ℕ) (cs : ℕ → Control) (now : Site) (hold
   no_puts : (j : ℕ) (a : Site) → MayPut c j a → ⊥
   no_puts j a may =
       let same : just_taken x ≡ may.owned = cc in
-      let bad : None ≡ Some a = ap (λ (t : OwnedArena). t.mark) same ∙ may.mark in
+      let bad : None ≡ Some a = ap (λ (t : OwnedArena). t.entering_word) same ∙ may.entering_word in
       cc
 
   abbrev taken_words : List ℕ
@@ -144,7 +144,7 @@ module _ (e : Plan) (words : List ℕ) (cs : ℕ → Control) (now : Site) (hold
     no_puts_done : (j : ℕ) (a : Site) → MayPut done j a → ⊥
     no_puts_done j a may =
         let same : at_next_port o ≡ may.owned = cc in
-        let bad : None ≡ Some a = ap (λ (t : OwnedArena). t.mark) same ∙ may.mark in
+        let bad : None ≡ Some a = ap (λ (t : OwnedArena). t.entering_word) same ∙ may.entering_word in
         cc
 
     is_d : (c : Site) → IsSite e c → packed d ≡ packed c → d ≡ c
@@ -152,9 +152,9 @@ module _ (e : Plan) (words : List ℕ) (cs : ℕ → Control) (now : Site) (hold
 
     out_clean : IsOut e words cs o.arena o.clean
     out_clean = record {
-      unmarked = λ c is at. subst (λ (f : Site). f.arena ≢ o.arena) (is_d c is (sym there ∙ at)) apart;
-      loaded = λ at. absurd (not_marked e d (cs o.clean).here few site (sym there ∙ at));
-      put = λ p a low may at. absurd (not_marked e d a few site (sym there ∙ at));
+      without_bit = λ c is at. subst (λ (f : Site). f.arena ≢ o.arena) (is_d c is (sym there ∙ at)) apart;
+      loaded = λ at. absurd (not_entering_word e d (cs o.clean).here few site (sym there ∙ at));
+      put = λ p a low may at. absurd (not_entering_word e d a few site (sym there ∙ at));
     }
 
     pub elsewhere_on : LawfulControl e words (put k done cs) now holds
@@ -179,23 +179,23 @@ module _ (e : Plan) (words : List ℕ) (cs : ℕ → Control) (now : Site) (hold
         last p less low ne (inr apart) = let other = apart.1 in own_here.out p (omega (arith, less, other)) low ne
 
   -- a word with the entering bit is that of a port that is entering
-  mark_is : (t : Entering) → (cs o.clean).entering ≡ t → entering_mark ≤ slice_index words (at_word o.clean) → IsSiteWord e words o.clean (cs o.clean).here t →
-      (slice_index words (at_word o.clean) ≡ marked (cs o.clean).here) × IsEarlier (cs o.clean).here (cs o.clean).here t
-  mark_is Stands is high h = let site = w.sites o.clean within in let r = site.epoch in let x = site.arena in absurd (omega (arith, high, h, few, r, x))
-  mark_is Marks is high (inl h) = (h, omega arith)
-  mark_is (Loaded f) is high (inl h) = (h, omega arith)
-  mark_is Marks is high (inr h) = let site = h.1 in let r = site.epoch in let x = site.arena in let at = h.2 in absurd (omega (arith, high, at, few, r, x))
-  mark_is (Loaded f) is high (inr h) = let site = h.1 in let r = site.epoch in let x = site.arena in let at = h.2 in absurd (omega (arith, high, at, few, r, x))
+  entering_is : (t : Entering) → (cs o.clean).entering ≡ t → entering_bit ≤ slice_index words (at_word o.clean) → IsSiteWord e words o.clean (cs o.clean).here t →
+      (slice_index words (at_word o.clean) ≡ entering_from (cs o.clean).here) × IsEarlier (cs o.clean).here (cs o.clean).here t
+  entering_is Stands is high h = let site = w.sites o.clean within in let r = site.epoch in let x = site.arena in absurd (omega (arith, high, h, few, r, x))
+  entering_is StoredEntering is high (inl h) = (h, omega arith)
+  entering_is (Loaded f) is high (inl h) = (h, omega arith)
+  entering_is StoredEntering is high (inr h) = let site = h.1 in let r = site.epoch in let x = site.arena in let at = h.2 in absurd (omega (arith, high, at, few, r, x))
+  entering_is (Loaded f) is high (inr h) = let site = h.1 in let r = site.epoch in let x = site.arena in let at = h.2 in absurd (omega (arith, high, at, few, r, x))
 
-  module _ (high : entering_mark ≤ slice_index words (at_word o.clean)) where
+  module _ (high : entering_bit ≤ slice_index words (at_word o.clean)) where
     abbrev loaded_owned : OwnedArena
     loaded_owned = having_loaded o (cs o.clean).here
 
     abbrev loading : Control
     loading = record (cs k) { owned = Some loaded_owned }
 
-    pub found_mark : slice_index words (at_word o.clean) ≡ marked (cs o.clean).here
-    found_mark = (mark_is (cs o.clean).entering refl high (w.at o.clean within)).0
+    pub found_entering : slice_index words (at_word o.clean) ≡ entering_from (cs o.clean).here
+    found_entering = (entering_is (cs o.clean).entering refl high (w.at o.clean within)).0
 
     no_puts_loading : (j : ℕ) (a : Site) → MayPut loading j a → ⊥
     no_puts_loading j a may =
@@ -215,7 +215,7 @@ module _ (e : Plan) (words : List ℕ) (cs : ℕ → Control) (now : Site) (hold
           few = own_here.few;
           out = own_here.out;
           older = λ is. absurd cc;
-          held = (w.sites o.clean within, (mark_is (cs o.clean).entering refl high (w.at o.clean within)).1);
+          held = (w.sites o.clean within, (entering_is (cs o.clean).entering refl high (w.at o.clean within)).1);
           all = own_here.all;
           none = own_here.none;
         })
@@ -287,14 +287,14 @@ others_are_elsewhere e words ports b k o d w below owned looked none within site
     (elsewhere_on e (control_words e words) (controls ports) (site_now b) (numbers b) w.control k below o w.plan.arenas owned within looked none d site (at ∙ there) apart)
     (nothing_set e words b (having_put (ports k) o) (at_next_port o) none) (λ _. still b k (ports k) (Some (at_next_port o)) (w.standing k below own.stands)) (omega arith)
 
-pub marks_are_loaded : MarksAreLoaded
-marks_are_loaded e words ports b k o w below owned within high =
+pub entering_words_are_loaded : EnteringWordsAreLoaded
+entering_words_are_loaded e words ports b k o w below owned within high =
     let own = owner_is e words ports b k o w below owned in
     let at = cw_at e words ports b k (ports k) 0 w below (at_word o.clean) (omega (arith, within)) in
-    let raised : entering_mark ≤ slice_index (control_words e words) (at_word o.clean) = omega (arith, high, at) in
+    let raised : entering_bit ≤ slice_index (control_words e words) (at_word o.clean) = omega (arith, high, at) in
     let s = setting_is e words ports b k o w below owned in
     let n : OwnedArena = having_loaded o (ports o.clean).control.here in (
-      sym at ∙ found_mark e (control_words e words) (controls ports) (site_now b) (numbers b) w.control k below o w.plan.arenas owned within raised,
+      sym at ∙ found_entering e (control_words e words) (controls ports) (site_now b) (numbers b) w.control k below o w.plan.arenas owned within raised,
       known_lifted e words ports b k (owning_port (ports k) n) w below
           (loading_on e (control_words e words) (controls ports) (site_now b) (numbers b) w.control k below o w.plan.arenas owned within raised)
           (record { few = s.few; sealed = s.sealed; each = s.each; cleared = s.cleared }) (λ _. still b k (ports k) (Some n) (w.standing k below own.stands)) (omega arith),
@@ -314,7 +314,7 @@ owners_look_away e words ports b k o w below owned other =
     ]) in
     known_lifted e words ports b k (having_passed (ports k)) w below
     (knows_more e (control_words e words) (controls ports) (site_now b) (numbers b) w.control k below c refl refl (λ _. earlier)
-    (λ j a may. record { owned = may.owned; is = may.is; port = may.port; mark = may.mark; again = may.again })
+    (λ j a may. record { owned = may.owned; is = may.is; port = may.port; entering_word = may.entering_word; again = may.again })
     (w.control.owners k below))
     (passed (ports k).control.owned refl t) (λ _. record { epoch = s.epoch; is = s.is; before = s.before; part = s.part; passed = s.passed; over = s.over }) (omega arith)
   where

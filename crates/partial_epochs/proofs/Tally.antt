@@ -1,5 +1,5 @@
 -- What each kind of step makes of the tally of arrivals, and of the arenas that are in use.
-use Rattle.partial_epochs.proofs.{Common.{ℕ, ◌≡◌, ◌≢◌, ◌+◌, ◌<◌, ◌≤◌, ◌/◌, ◌%◌, ◌⊎◌, Bool, true, false, if◌then◌else◌, Option, Some, None, IfSome, List, slice_index, refl, sym, ap, subst, ◌∙◌, inl, inr, arith, eqb_tells, cases_lt, put, IsSite, Site, Plan, arena_limit, at_word, control_words, entering_mark, marked, own_word, packed, Control, Entering, OwnedArena, Port, Stands, Marks, Loaded, IsOwner, IsSiteWord, Beside, LawfulEpochs, controls, numbers, site_now, Move}, Entering.cw_at, Lists.{put_all}, Weights.{credit_few, pick, sum_arrived, sum_within, weigh, weigh_arrived, weigh_within}}
+use Rattle.partial_epochs.proofs.{Common.{ℕ, ◌≡◌, ◌≢◌, ◌+◌, ◌<◌, ◌≤◌, ◌/◌, ◌%◌, ◌⊎◌, Bool, true, false, if◌then◌else◌, Option, Some, None, IfSome, List, slice_index, refl, sym, ap, subst, ◌∙◌, inl, inr, arith, eqb_tells, cases_lt, put, IsSite, Site, Plan, arena_limit, at_word, control_words, entering_bit, entering_from, own_word, packed, Control, Entering, OwnedArena, Port, Stands, StoredEntering, Loaded, IsOwner, IsSiteWord, Beside, LawfulEpochs, controls, numbers, site_now, Move}, Entering.cw_at, Lists.{put_all}, Weights.{credit_few, pick, sum_arrived, sum_within, weigh, weigh_arrived, weigh_within}}
 use Rattle.partial_epochs.specs.FreeArenas.{Counts, HasMetPort, HasSeenArrival, IsInUse, IsNamed, IsOwnedBySome, KeepsTally, LeavesInUse, Tally, credit, gives_at, gives_left, may_free, met_after, weight}
 
 -- what follows for the value, if there is one
@@ -18,7 +18,7 @@ gives_few Stands true None = omega arith
 gives_few Stands true (Some o) = omega arith
 gives_few Stands false None = omega arith
 gives_few Stands false (Some o) = pick (λ m. m ≤ 2) o.looked 2 1 (λ _. omega arith) (λ _. omega arith)
-gives_few Marks past o = omega arith
+gives_few StoredEntering past o = omega arith
 gives_few (Loaded c) past o = omega arith
 
 -- one that has seen its epoch's end gives back no more than before
@@ -27,24 +27,24 @@ gives_passed Stands true None = omega arith
 gives_passed Stands true (Some o) = omega arith
 gives_passed Stands false None = omega arith
 gives_passed Stands false (Some o) = pick (λ m. 1 ≤ m) o.looked 2 1 (λ _. omega arith) (λ _. omega arith)
-gives_passed Marks past o = omega arith
+gives_passed StoredEntering past o = omega arith
 gives_passed (Loaded c) past o = omega arith
 
 -- of an arena that is owned it matters only whether the port has looked
 pub gives_looked : (n : Entering) (past : Bool) (o o' : OwnedArena) → o'.looked ≡ o.looked → gives_at n past (Some o') ≤ gives_at n past (Some o)
 gives_looked Stands true o o' same = omega arith
 gives_looked Stands false o o' same = subst (λ (c : Bool). ◌≤◌ (if o'.looked then 2 else 1) (if c then 2 else 1)) same (omega arith)
-gives_looked Marks past o o' same = omega arith
+gives_looked StoredEntering past o o' same = omega arith
 gives_looked (Loaded c) past o o' same = omega arith
 
 -- and nothing of it once the port has seen its epoch's end
 pub gives_owned : (n : Entering) (o o' : OwnedArena) → gives_at n true (Some o') ≤ gives_at n true (Some o)
 gives_owned Stands o o' = omega arith
-gives_owned Marks o o' = omega arith
+gives_owned StoredEntering o o' = omega arith
 gives_owned (Loaded c) o o' = omega arith
 
 -- the word of a site is no entering word
-pub site_low : (e : Plan) (c : Site) → e.arenas ≤ arena_limit → IsSite e c → packed c < entering_mark
+pub site_low : (e : Plan) (c : Site) → e.arenas ≤ arena_limit → IsSite e c → packed c < entering_bit
 site_low e c few h = let r = h.epoch in let a = h.arena in omega (arith, few, r, a)
 
 -- and it has the site's epoch
@@ -53,7 +53,7 @@ site_epoch e c few h = let a = h.arena in omega (arith, few, a)
 
 -- an entering word that the owner q holds is its port's word yet, or it has seen an arrival
 abbrev pub IsHeld : Plan → List ℕ → Tally → ℕ → OwnedArena → Site → Type 0
-IsHeld e words t q o a = ((o.clean < e.ports) × (slice_index words (at_word o.clean) ≡ marked a)) ⊎ HasSeenArrival t q
+IsHeld e words t q o a = ((o.clean < e.ports) × (slice_index words (at_word o.clean) ≡ entering_from a)) ⊎ HasSeenArrival t q
 
 -- the weight of port k, were it p
 abbrev pub weight_as : Plan → List ℕ → Port → ℕ → (ℕ → ℕ) → Tally → ℕ → ℕ
@@ -71,7 +71,7 @@ module _ (e : Plan) (words : List ℕ) (ports : ℕ → Port) (b : Beside) (w : 
 
   module _ (t : Tally) (s : KeepsTally e words ports t) where
     -- an owner word is no entering word
-    own_low : (x : ℕ) → x < e.arenas → slice_index words (own_word e x) < entering_mark
+    own_low : (x : ℕ) → x < e.arenas → slice_index words (own_word e x) < entering_bit
     own_low x low = elim (eqb_tells (slice_index words (own_word e x)) 0) [
       | inl none ↦ let is = none.1 in omega (arith, is)
       | inr some ↦
@@ -83,9 +83,9 @@ module _ (e : Plan) (words : List ℕ) (ports : ℕ → Port) (b : Beside) (w : 
     ]
 
     -- the entering words that owners hold are those of ports
-    pub held_within : (q : ℕ) → q < e.ports → IfSome (ports q).control.owned (λ o. IfSome o.mark (IsHeld e words t q o))
-    held_within q low = some_to (λ (o : OwnedArena). IfSome o.mark (λ a. (slice_index words (at_word o.clean) ≡ marked a) ⊎ HasSeenArrival t q)) (λ (o : OwnedArena). IfSome o.mark (IsHeld e words t q o))
-        (ports q).control.owned (λ o is. some_to (λ a. (slice_index words (at_word o.clean) ≡ marked a) ⊎ HasSeenArrival t q) (IsHeld e words t q o) o.mark (λ a _ h. elim h [
+    pub held_within : (q : ℕ) → q < e.ports → IfSome (ports q).control.owned (λ o. IfSome o.entering_word (IsHeld e words t q o))
+    held_within q low = some_to (λ (o : OwnedArena). IfSome o.entering_word (λ a. (slice_index words (at_word o.clean) ≡ entering_from a) ⊎ HasSeenArrival t q)) (λ (o : OwnedArena). IfSome o.entering_word (IsHeld e words t q o))
+        (ports q).control.owned (λ o is. some_to (λ a. (slice_index words (at_word o.clean) ≡ entering_from a) ⊎ HasSeenArrival t q) (IsHeld e words t q o) o.entering_word (λ a _ h. elim h [
           | inl at ↦ elim (cases_lt o.clean e.ports) [
             | inl inside ↦ inl (inside, at)
             | inr from ↦
@@ -96,7 +96,7 @@ module _ (e : Plan) (words : List ℕ) (ports : ℕ → Port) (b : Beside) (w : 
                 absurd (omega (arith, own, same, at))
           ]
           | inr has ↦ inr has
-        ])) (s.marks q low)
+        ])) (s.entering_words q low)
 
 -- each port's word names the arena that it named
 abbrev pub NameAsBefore : Plan → List ℕ → List ℕ → Type 0
@@ -144,7 +144,7 @@ pub record IsBesideTally (e : Plan) (words words' : List ℕ) (ports : ℕ → P
   pub at : (q : ℕ) → q < e.ports → slice_index words' (at_word q) ≡ slice_index words (at_word q)
   pub own : (x : ℕ) → x < e.arenas → slice_index words' (own_word e x) ≡ slice_index words (own_word e x)
   pub owned : OwnsAsBefore (ports k).control.owned p.control.owned
-  pub marks : IfSome p.control.owned (λ o. IfSome o.mark (IsHeld e words t k o))
+  pub entering_words : IfSome p.control.owned (λ o. IfSome o.entering_word (IsHeld e words t k o))
   pub met : t.met k ≡ true → IfSome p.control.owned (HasMetPort e words p.control t k)
 
 -- such a step keeps the tally as it is
@@ -158,12 +158,12 @@ module _ (e : Plan) (words words' : List ℕ) (ports : ℕ → Port) (b : Beside
   tally_stays = record {
     owners = owners_stay e words words' ports k p a.own a.owned s.owners;
     taken = s.taken;
-    marks = λ q low. some_to (λ (o : OwnedArena). IfSome o.mark (IsHeld e words t q o)) (λ (o : OwnedArena). IfSome o.mark (λ d. (slice_index words' (at_word o.clean) ≡ marked d) ⊎ HasSeenArrival t q))
+    entering_words = λ q low. some_to (λ (o : OwnedArena). IfSome o.entering_word (IsHeld e words t q o)) (λ (o : OwnedArena). IfSome o.entering_word (λ d. (slice_index words' (at_word o.clean) ≡ entering_from d) ⊎ HasSeenArrival t q))
         (put k p ports q).control.owned
-        (λ o _. some_to (IsHeld e words t q o) (λ d. (slice_index words' (at_word o.clean) ≡ marked d) ⊎ HasSeenArrival t q) o.mark (λ d _ h. elim h [
+        (λ o _. some_to (IsHeld e words t q o) (λ d. (slice_index words' (at_word o.clean) ≡ entering_from d) ⊎ HasSeenArrival t q) o.entering_word (λ d _ h. elim h [
           | inl is ↦ inl (a.at o.clean is.0 ∙ is.1)
           | inr has ↦ inr has
-        ])) (put_all (λ i (r : Port). i < e.ports → IfSome r.control.owned (λ o. IfSome o.mark (IsHeld e words t i o))) k p ports q (λ _ _. a.marks) (λ _ low. held_within e words ports b w t s q low) low);
+        ])) (put_all (λ i (r : Port). i < e.ports → IfSome r.control.owned (λ o. IfSome o.entering_word (IsHeld e words t i o))) k p ports q (λ _ _. a.entering_words) (λ _ low. held_within e words ports b w t s q low) low);
     met = λ q low met. some_to (HasMetPort e words (put k p ports q).control t q) (HasMetPort e words' (put k p ports q).control t q) (put k p ports q).control.owned
         (λ o _. met_stays e words words' (put k p ports q).control t q o as_before)
         (put_all (λ i (r : Port). i < e.ports → t.met i ≡ true → IfSome r.control.owned (HasMetPort e words r.control t i)) k p ports q (λ _ _. a.met) (λ _ low met. s.met q low met) low met);
@@ -205,8 +205,8 @@ module _ (e : Plan) (words words' : List ℕ) (ports : ℕ → Port) (k r : ℕ)
   tally_arrives = record {
     owners = owners_stay e words words' ports k p own owned s.owners;
     taken = λ q low. let few = s.taken q low in omega (arith, few);
-    marks = λ q low. some_all (λ (o : OwnedArena). IfSome o.mark (λ d. (slice_index words' (at_word o.clean) ≡ marked d) ⊎ HasSeenArrival (having_arrived t) q)) (put k p ports q).control.owned
-        (λ o. some_all (λ d. (slice_index words' (at_word o.clean) ≡ marked d) ⊎ HasSeenArrival (having_arrived t) q) o.mark (λ d. inr (seen q low)));
+    entering_words = λ q low. some_all (λ (o : OwnedArena). IfSome o.entering_word (λ d. (slice_index words' (at_word o.clean) ≡ entering_from d) ⊎ HasSeenArrival (having_arrived t) q)) (put k p ports q).control.owned
+        (λ o. some_all (λ d. (slice_index words' (at_word o.clean) ≡ entering_from d) ⊎ HasSeenArrival (having_arrived t) q) o.entering_word (λ d. inr (seen q low)));
     met = λ q low is. some_to (λ (o : OwnedArena). ((put k p ports q).control.past ≡ true) ⊎ (o.looked ≡ true)) (HasMetPort e words' (put k p ports q).control (having_arrived t) q) (put k p ports q).control.owned
         (λ o _ looked. record { looked = looked; cause = inr (seen q low) })
         (put_all (λ i (r : Port). i < e.ports → t.met i ≡ true → IfSome r.control.owned (λ o. (r.control.past ≡ true) ⊎ (o.looked ≡ true))) k p ports q (λ _ _. met)
@@ -216,7 +216,7 @@ module _ (e : Plan) (words words' : List ℕ) (ports : ℕ → Port) (k r : ℕ)
       seen : (q : ℕ) → q < e.ports → t.taken q < t.arrivals + 1
       seen q low = let few = s.taken q low in omega (arith, few)
 
-  module _ (now now' : Site) (since : ℕ → ℕ) (m : Move) (epoch : ℕ) (high : entering_mark ≤ slice_index words (at_word r)) (low' : slice_index words' (at_word r) < entering_mark)
+  module _ (now now' : Site) (since : ℕ → ℕ) (m : Move) (epoch : ℕ) (high : entering_bit ≤ slice_index words (at_word r)) (low' : slice_index words' (at_word r) < entering_bit)
       (is : slice_index words' (at_word r) / arena_limit ≡ epoch) (late : since r ≤ epoch) (old : epoch ≤ now.epoch) (gives : k ≢ r → gives_left p.control ≤ gives_left (ports k).control)
       (met' : (q : ℕ) → t.met q ≡ met_after k m t.met q) (leaves : LeavesInUse e words' t (having_arrived t) m) where
     -- port r weighs less, by the number of ports

@@ -1,5 +1,5 @@
 -- What the steps make of the tally that change no owner word, and by which no port moves to another site.
-use Rattle.partial_epochs.proofs.{Common.{ℕ, ◌≡◌, ◌≢◌, ◌+◌, ◌<◌, ◌≤◌, ◌/◌, ◌%◌, ◌^◌, ◌==◌, ◌⊎◌, Bool, true, if◌then◌else◌, Option, Some, IfSome, List, slice_index, slice_set, refl, sym, ap, subst, ◌∙◌, inl, inr, arith, eqb_tells, get_or-set_same, get_or-set_other, some_same, words_after, Step, Load, Store, Exchange, Add, put, IsSite, Site, Plan, arena_limit, at_word, base, control_size, current_word, entering_mark, marked, own_word, packed, based_step, set_word, Control, Entering, OwnedArena, Port, Stands, Marks, Loaded, Beside, LawfulEpochs, site_now, having_passed, owning_port, having_published, next_site, resting_arena, Move, StoresMark}, Entering.{not_marked}, Lists.{put_all, put_other, put_same}, Tally.{IsBesideTally, IsHeld, NameAsBefore, counts_beside, gives_looked, gives_owned, gives_passed, held_within, met_stays, site_epoch, site_low, owners_stay, some_to, stands_at, use_stays, weight_as}, Weights.{sum_within, weigh, weigh_away, weigh_here, weigh_not_since, weigh_within}}
+use Rattle.partial_epochs.proofs.{Common.{ℕ, ◌≡◌, ◌≢◌, ◌+◌, ◌<◌, ◌≤◌, ◌/◌, ◌%◌, ◌^◌, ◌==◌, ◌⊎◌, Bool, true, if◌then◌else◌, Option, Some, IfSome, List, slice_index, slice_set, refl, sym, ap, subst, ◌∙◌, inl, inr, arith, eqb_tells, get_or-set_same, get_or-set_other, some_same, words_after, Step, Load, Store, Exchange, Add, put, IsSite, Site, Plan, arena_limit, at_word, base, control_size, current_word, entering_bit, entering_from, own_word, packed, based_step, set_word, Control, Entering, OwnedArena, Port, Stands, StoredEntering, Loaded, Beside, LawfulEpochs, site_now, having_passed, owning_port, having_published, next_site, resting_arena, Move, StoresEnteringWord}, Entering.{not_entering_word}, Lists.{put_all, put_other, put_same}, Tally.{IsBesideTally, IsHeld, NameAsBefore, counts_beside, gives_looked, gives_owned, gives_passed, held_within, met_stays, site_epoch, site_low, owners_stay, some_to, stands_at, use_stays, weight_as}, Weights.{sum_within, weigh, weigh_away, weigh_here, weigh_not_since, weigh_within}}
 use Rattle.partial_epochs.specs.FreeArenas.{Counts, HasMetPort, HasSeenArrival, IsNamed, KeepsTally, LeavesInUse, Tally, credit, gives_at, gives_left, may_free, met_after, weight}
 
 -- a control word is another one than each word of an arena
@@ -44,7 +44,7 @@ module _ (e : Plan) (words : List ℕ) (ports : ℕ → Port) (b : Beside) (k : 
   site_here : IsSite e here
   site_here = w.control.sites k below
 
-  low_here : packed here < entering_mark
+  low_here : packed here < entering_bit
   low_here = site_low e here w.plan.arenas site_here
 
   -- less credit and fewer gives
@@ -67,7 +67,7 @@ module _ (e : Plan) (words : List ℕ) (ports : ℕ → Port) (b : Beside) (k : 
         at = at;
         own = own;
         owned = λ o is. (o, ap (λ (d : Control). d.owned) same ∙ is, refl);
-        marks = subst (λ (d : Control). IfSome d.owned (λ o. IfSome o.mark (IsHeld e words t k o))) (sym same) (held_within e words ports b w t s k below);
+        entering_words = subst (λ (d : Control). IfSome d.owned (λ o. IfSome o.entering_word (IsHeld e words t k o))) (sym same) (held_within e words ports b w t s k below);
         met = λ is. subst (λ (d : Control). IfSome d.owned (HasMetPort e words d t k)) (sym same) (s.met k below is);
       }) (site_now b) (site_now c) since m
       (λ _. subst (λ (d : Control). weigh e.ports (slice_index words (at_word k)) now (since k) (credit t k d.owned) (gives_left d) ≤ weight_as e words (ports k) now since t k) (sym same) (omega arith))
@@ -84,7 +84,7 @@ module _ (e : Plan) (words : List ℕ) (ports : ℕ → Port) (b : Beside) (k : 
     at = λ q low. refl;
     own = λ x low. refl;
     owned = λ o is. (o, is, refl);
-    marks = held_within e words ports b w t s k below;
+    entering_words = held_within e words ports b w t s k below;
     met = λ is. some_to (HasMetPort e words (ports k).control t k) (HasMetPort e words (having_passed (ports k)).control t k) (ports k).control.owned (λ o _ h. record { looked = inl refl; cause = h.cause })
         (s.met k below is);
   }
@@ -107,7 +107,7 @@ module _ (e : Plan) (words : List ℕ) (ports : ℕ → Port) (b : Beside) (k : 
 
   -- the port owns the same arena in another state
   module _ (o o' : OwnedArena) (is : (ports k).control.owned ≡ Some o) (arena : o'.arena ≡ o.arena) (looked : o.looked ≡ true → o'.looked ≡ true)
-      (mark : IfSome o'.mark (IsHeld e words t k o')) (words' : List ℕ) (at : (q : ℕ) → q < e.ports → slice_index words' (at_word q) ≡ slice_index words (at_word q))
+      (entering_word : IfSome o'.entering_word (IsHeld e words t k o')) (words' : List ℕ) (at : (q : ℕ) → q < e.ports → slice_index words' (at_word q) ≡ slice_index words (at_word q))
       (own : (x : ℕ) → x < e.arenas → slice_index words' (own_word e x) ≡ slice_index words (own_word e x)) where
     -- the tally says of it what it said
     pub owner : Keeps words' (owning_port (ports k) o')
@@ -115,7 +115,7 @@ module _ (e : Plan) (words : List ℕ) (ports : ℕ → Port) (b : Beside) (k : 
       at = at;
       own = own;
       owned = λ d was. (o', refl, arena ∙ ap (λ (f : OwnedArena). f.arena) (some_same (sym is ∙ was)));
-      marks = mark;
+      entering_words = entering_word;
       met = λ met.
           let h = was_met o is met in
           record {
@@ -142,7 +142,7 @@ module _ (e : Plan) (words : List ℕ) (ports : ℕ → Port) (b : Beside) (k : 
     pub owner_here : (ports k).control.entering ≡ Stands → here.epoch ≡ now → WeighsNoMore (owning_port (ports k) o')
     owner_here stands even =
         let at = stands_at e words ports b w k below stands in
-        let low : slice_index words (at_word k) < entering_mark = subst (λ v. v < entering_mark) (sym at) low_here in
+        let low : slice_index words (at_word k) < entering_bit = subst (λ v. v < entering_bit) (sym at) low_here in
         let epoch : slice_index words (at_word k) / arena_limit ≡ now = ap (λ v. v / arena_limit) at ∙ site_epoch e here w.plan.arenas site_here ∙ even in
         let before = weigh_here e.ports (slice_index words (at_word k)) now (since k) (credit t k (ports k).control.owned) (gives_left (ports k).control) low epoch in
         let after = weigh_here e.ports (slice_index words (at_word k)) now (since k) (credit t k (Some o')) (gives_left (owning_port (ports k) o').control) low epoch in
@@ -150,7 +150,7 @@ module _ (e : Plan) (words : List ℕ) (ports : ℕ → Port) (b : Beside) (k : 
         omega (arith, before, after, few)
 
   -- a port that enters loads the current site
-  module _ (entering : (ports k).control.entering ≡ Marks) (c : Site) where
+  module _ (entering : (ports k).control.entering ≡ StoredEntering) (c : Site) where
     abbrev loaded_port : Port
     loaded_port = record (ports k) { control = record (ports k).control { entering = Loaded c } }
 
@@ -159,7 +159,7 @@ module _ (e : Plan) (words : List ℕ) (ports : ℕ → Port) (b : Beside) (k : 
       at = λ q low. refl;
       own = λ x low. refl;
       owned = λ o is. (o, is, refl);
-      marks = held_within e words ports b w t s k below;
+      entering_words = held_within e words ports b w t s k below;
       met = λ is. some_to (HasMetPort e words (ports k).control t k) (HasMetPort e words loaded_port.control t k) (ports k).control.owned (λ o _ h. record { looked = h.looked; cause = h.cause }) (s.met k below is);
     }
 
@@ -176,7 +176,7 @@ module _ (e : Plan) (words : List ℕ) (ports : ℕ → Port) (b : Beside) (k : 
       at = λ q low. get_or-set_other words current_word (at_word q) published_word 0 (omega arith);
       own = λ x low. get_or-set_other words current_word (own_word e x) published_word 0 (omega arith);
       owned = λ d was. (resting_arena o, refl, ap (λ (f : OwnedArena). f.arena) (some_same (sym is ∙ was)));
-      marks = tt;
+      entering_words = tt;
       met = λ met. record { looked = inl refl; cause = (was_met o is met).cause };
     }
 
@@ -190,91 +190,91 @@ module _ (e : Plan) (words : List ℕ) (ports : ℕ → Port) (b : Beside) (k : 
 
   -- a port stores its entering word
   module _ (stands : (ports k).control.entering ≡ Stands) (past : (ports k).control.past ≡ true) where
-    abbrev marks_port : Port
-    marks_port = record (ports k) { control = record (ports k).control { entering = Marks } }
+    abbrev stores_entering_word : Port
+    stores_entering_word = record (ports k) { control = record (ports k).control { entering = StoredEntering } }
 
-    abbrev marked_words : List ℕ
-    marked_words = slice_set words (at_word k) (marked here)
+    abbrev entering_stored : List ℕ
+    entering_stored = slice_set words (at_word k) (entering_from here)
 
-    mark_other : (q : ℕ) → q ≢ k → slice_index marked_words (at_word q) ≡ slice_index words (at_word q)
-    mark_other q ne = get_or-set_other words (at_word k) (at_word q) (marked here) 0 (omega (arith, ne))
+    entering_other : (q : ℕ) → q ≢ k → slice_index entering_stored (at_word q) ≡ slice_index words (at_word q)
+    entering_other q ne = get_or-set_other words (at_word k) (at_word q) (entering_from here) 0 (omega (arith, ne))
 
-    mark_same : slice_index marked_words (at_word k) ≡ marked here
-    mark_same = let count = w.count in get_or-set_same words (at_word k) (marked here) 0 (omega (arith, count, below))
+    entering_same : slice_index entering_stored (at_word k) ≡ entering_from here
+    entering_same = let count = w.count in get_or-set_same words (at_word k) (entering_from here) 0 (omega (arith, count, below))
 
-    mark_own : (x : ℕ) → x < e.arenas → slice_index marked_words (own_word e x) ≡ slice_index words (own_word e x)
-    mark_own x low = get_or-set_other words (at_word k) (own_word e x) (marked here) 0 (omega (arith, below))
+    entering_own : (x : ℕ) → x < e.arenas → slice_index entering_stored (own_word e x) ≡ slice_index words (own_word e x)
+    entering_own x low = get_or-set_other words (at_word k) (own_word e x) (entering_from here) 0 (omega (arith, below))
 
     word_was : slice_index words (at_word k) ≡ packed here
     word_was = stands_at e words ports b w k below stands
 
     -- the entering word names the arena that the word named
-    mark_alike : NameAsBefore e words marked_words
-    mark_alike q low = elim (eqb_tells q k) [
-      | inl same ↦ subst (λ i. slice_index marked_words (at_word i) % arena_limit ≡ slice_index words (at_word i) % arena_limit) (sym same.1)
-          (let is = mark_same in let was = word_was in omega (arith, is, was))
-      | inr ne ↦ ap (λ v. v % arena_limit) (mark_other q ne.1)
+    entering_alike : NameAsBefore e words entering_stored
+    entering_alike q low = elim (eqb_tells q k) [
+      | inl same ↦ subst (λ i. slice_index entering_stored (at_word i) % arena_limit ≡ slice_index words (at_word i) % arena_limit) (sym same.1)
+          (let is = entering_same in let was = word_was in omega (arith, is, was))
+      | inr ne ↦ ap (λ v. v % arena_limit) (entering_other q ne.1)
     ]
 
     -- the tally is kept
-    tally_marked : KeepsTally e marked_words (put k marks_port ports) t
-    tally_marked = record {
-      owners = owners_stay e words marked_words ports k marks_port mark_own (λ o is. (o, is, refl)) s.owners;
+    tally_entering : KeepsTally e entering_stored (put k stores_entering_word ports) t
+    tally_entering = record {
+      owners = owners_stay e words entering_stored ports k stores_entering_word entering_own (λ o is. (o, is, refl)) s.owners;
       taken = s.taken;
-      marks = λ q low. put_all (λ i (r : Port). i < e.ports → IfSome r.control.owned (λ o. IfSome o.mark (λ d. (slice_index marked_words (at_word o.clean) ≡ marked d) ⊎ HasSeenArrival t i))) k marks_port ports q
+      entering_words = λ q low. put_all (λ i (r : Port). i < e.ports → IfSome r.control.owned (λ o. IfSome o.entering_word (λ d. (slice_index entering_stored (at_word o.clean) ≡ entering_from d) ⊎ HasSeenArrival t i))) k stores_entering_word ports q
           (λ _ _. held k below) (λ _ low. held q low) low;
-      met = λ q low. put_all (λ i (r : Port). i < e.ports → t.met i ≡ true → IfSome r.control.owned (HasMetPort e marked_words r.control t i)) k marks_port ports q
-          (λ _ _ is. some_to (HasMetPort e words (ports k).control t k) (HasMetPort e marked_words marks_port.control t k) (ports k).control.owned
-          (λ o _ h. let there = met_stays e words marked_words (ports k).control t k o mark_alike h in record { looked = there.looked; cause = there.cause }) (s.met k below is))
-          (λ _ low is. some_to (HasMetPort e words (ports q).control t q) (HasMetPort e marked_words (ports q).control t q) (ports q).control.owned (λ o _. met_stays e words marked_words (ports q).control t q o mark_alike)
+      met = λ q low. put_all (λ i (r : Port). i < e.ports → t.met i ≡ true → IfSome r.control.owned (HasMetPort e entering_stored r.control t i)) k stores_entering_word ports q
+          (λ _ _ is. some_to (HasMetPort e words (ports k).control t k) (HasMetPort e entering_stored stores_entering_word.control t k) (ports k).control.owned
+          (λ o _ h. let there = met_stays e words entering_stored (ports k).control t k o entering_alike h in record { looked = there.looked; cause = there.cause }) (s.met k below is))
+          (λ _ low is. some_to (HasMetPort e words (ports q).control t q) (HasMetPort e entering_stored (ports q).control t q) (ports q).control.owned (λ o _. met_stays e words entering_stored (ports q).control t q o entering_alike)
           (s.met q low is)) low;
     }
       where
-        held : (q : ℕ) → q < e.ports → IfSome (ports q).control.owned (λ o. IfSome o.mark (λ d. (slice_index marked_words (at_word o.clean) ≡ marked d) ⊎ HasSeenArrival t q))
-        held q low = some_to (λ (o : OwnedArena). IfSome o.mark (IsHeld e words t q o)) (λ (o : OwnedArena). IfSome o.mark (λ d. (slice_index marked_words (at_word o.clean) ≡ marked d) ⊎ HasSeenArrival t q))
-            (ports q).control.owned (λ o _. some_to (IsHeld e words t q o) (λ d. (slice_index marked_words (at_word o.clean) ≡ marked d) ⊎ HasSeenArrival t q) o.mark (λ d _ h. elim h [
+        held : (q : ℕ) → q < e.ports → IfSome (ports q).control.owned (λ o. IfSome o.entering_word (λ d. (slice_index entering_stored (at_word o.clean) ≡ entering_from d) ⊎ HasSeenArrival t q))
+        held q low = some_to (λ (o : OwnedArena). IfSome o.entering_word (IsHeld e words t q o)) (λ (o : OwnedArena). IfSome o.entering_word (λ d. (slice_index entering_stored (at_word o.clean) ≡ entering_from d) ⊎ HasSeenArrival t q))
+            (ports q).control.owned (λ o _. some_to (IsHeld e words t q o) (λ d. (slice_index entering_stored (at_word o.clean) ≡ entering_from d) ⊎ HasSeenArrival t q) o.entering_word (λ d _ h. elim h [
               | inl is ↦ elim (eqb_tells o.clean k) [
-                | inl same ↦ absurd (not_marked e here d w.plan.arenas site_here (sym word_was ∙ ap (λ i. slice_index words (at_word i)) (sym same.1) ∙ is.1))
-                | inr ne ↦ inl (mark_other o.clean ne.1 ∙ is.1)
+                | inl same ↦ absurd (not_entering_word e here d w.plan.arenas site_here (sym word_was ∙ ap (λ i. slice_index words (at_word i)) (sym same.1) ∙ is.1))
+                | inr ne ↦ inl (entering_other o.clean ne.1 ∙ is.1)
               ]
               | inr has ↦ inr has
             ])) (held_within e words ports b w t s q low)
 
     -- no port weighs more: the one that stores its entering word stood in an earlier epoch
-    weights_marked : (q : ℕ) → q < e.ports → weight e marked_words (put k marks_port ports) now (put k now since) t q ≤ weight e words ports now since t q
-    weights_marked q low = elim (eqb_tells q k) [
-      | inl same ↦ subst (λ i. weight e marked_words (put k marks_port ports) now (put k now since) t i ≤ weight e words ports now since t i) (sym same.1) own_weight
+    weights_entering : (q : ℕ) → q < e.ports → weight e entering_stored (put k stores_entering_word ports) now (put k now since) t q ≤ weight e words ports now since t q
+    weights_entering q low = elim (eqb_tells q k) [
+      | inl same ↦ subst (λ i. weight e entering_stored (put k stores_entering_word ports) now (put k now since) t i ≤ weight e words ports now since t i) (sym same.1) own_weight
       | inr ne ↦
-          subst (λ v. weigh e.ports v now (put k now since q) (credit t q (put k marks_port ports q).control.owned) (gives_left (put k marks_port ports q).control) ≤ weight e words ports now since t q)
-          (sym (mark_other q ne.1))
-          (subst (λ u. weigh e.ports (slice_index words (at_word q)) now u (credit t q (put k marks_port ports q).control.owned) (gives_left (put k marks_port ports q).control) ≤ weight e words ports now since t q)
+          subst (λ v. weigh e.ports v now (put k now since q) (credit t q (put k stores_entering_word ports q).control.owned) (gives_left (put k stores_entering_word ports q).control) ≤ weight e words ports now since t q)
+          (sym (entering_other q ne.1))
+          (subst (λ u. weigh e.ports (slice_index words (at_word q)) now u (credit t q (put k stores_entering_word ports q).control.owned) (gives_left (put k stores_entering_word ports q).control) ≤ weight e words ports now since t q)
           (sym (put_other k now since q ne.1))
-          (subst (λ (r : Port). weight_as e words r now since t q ≤ weight e words ports now since t q) (sym (put_other k marks_port ports q ne.1)) (omega arith)))
+          (subst (λ (r : Port). weight_as e words r now since t q ≤ weight e words ports now since t q) (sym (put_other k stores_entering_word ports q ne.1)) (omega arith)))
     ]
       where
-        own_weight : weight e marked_words (put k marks_port ports) now (put k now since) t k ≤ weight e words ports now since t k
+        own_weight : weight e entering_stored (put k stores_entering_word ports) now (put k now since) t k ≤ weight e words ports now since t k
         own_weight =
-            let c : Control = (put k marks_port ports k).control in
-            let is = mark_same in
+            let c : Control = (put k stores_entering_word ports k).control in
+            let is = entering_same in
             let low = low_here in
             let was = word_was in
             let epoch = site_epoch e here w.plan.arenas site_here in
             let old = w.control.past k below past in
             let since_now = put_same k now since in
-            let after = weigh_not_since e.ports (slice_index marked_words (at_word k)) now (put k now since k) (credit t k c.owned) (gives_left c) (omega (arith, is)) (omega (arith, since_now)) in
+            let after = weigh_not_since e.ports (slice_index entering_stored (at_word k)) now (put k now since k) (credit t k c.owned) (gives_left c) (omega (arith, is)) (omega (arith, since_now)) in
             let before = weigh_away e.ports (slice_index words (at_word k)) now (since k) (credit t k (ports k).control.owned) (gives_left (ports k).control) (omega (arith, was, low))
             (λ even. let same = ap (λ v. v / arena_limit) was in omega (arith, even, same, epoch, old)) in
             omega (arith, after, before)
 
     -- so the step counts
-    pub counts_mark : (c : Beside) → Goal StoresMark marked_words marks_port c (put k now since)
-    counts_mark c = record {
+    pub counts_entering : (c : Beside) → Goal StoresEnteringWord entering_stored stores_entering_word c (put k now since)
+    counts_entering c = record {
       there = t;
-      keeps = tally_marked;
+      keeps = tally_entering;
       grows = omega arith;
       met = λ q. refl;
-      less = λ same. subst (λ n. t.freed + may_free e marked_words (put k marks_port ports) n (put k now since) t ≤ t.freed + may_free e words ports now since t) (sym same)
-          (let all = sum_within (weight e words ports now since t) (weight e marked_words (put k marks_port ports) now (put k now since) t) e.ports weights_marked in omega (arith, all));
-      stays = λ _ q x _ low h. use_stays e words marked_words q x mark_alike (mark_own x low) h;
+      less = λ same. subst (λ n. t.freed + may_free e entering_stored (put k stores_entering_word ports) n (put k now since) t ≤ t.freed + may_free e words ports now since t) (sym same)
+          (let all = sum_within (weight e words ports now since t) (weight e entering_stored (put k stores_entering_word ports) now (put k now since) t) e.ports weights_entering in omega (arith, all));
+      stays = λ _ q x _ low h. use_stays e words entering_stored q x entering_alike (entering_own x low) h;
       leaves = tt;
     }

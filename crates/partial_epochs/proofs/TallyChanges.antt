@@ -1,5 +1,5 @@
 -- What the steps make of the tally by which a port moves to another site, and those on owner words.
-use Rattle.partial_epochs.proofs.{Common.{ℕ, ◌≡◌, ◌≢◌, ◌+◌, ◌<◌, ◌≤◌, ◌/◌, ◌%◌, ◌==◌, ◌⊎◌, nat_lt, Bool, true, false, if◌then◌else◌, Option, Some, None, IfSome, List, length, slice_index, slice_set, refl, sym, ap, subst, ◌∙◌, inl, inr, arith, eqb_tells, get_or-set_same, get_or-set_other, lt-ltb, some_same, put, IsSite, Site, Plan, arena_limit, at_word, control_words, entering_mark, marked, own_word, packed, Entering, OwnedArena, Port, Stands, Loaded, IsOld, IsOwner, Beside, LawfulEpochs, controls, numbers, site_now, arrived_port, Arrives, at_next_port, having_given, having_put, just_taken, owning_port, Takes, Gives, ExchangesMark, Puts, KeepsTime}, Lists.{put_all, put_other, put_same}, Tally.{IsBesideTally, IsHeld, NameAsBefore, OwnsAsBefore, counts_arrival, counts_beside, gives_looked, held_within, named_stays, owner_is, site_epoch, site_low, some_to, stands_at, use_stays, weight_as}, Weights.{sum_less, sum_within, weigh, weigh_away, weigh_here, weigh_within}}
+use Rattle.partial_epochs.proofs.{Common.{ℕ, ◌≡◌, ◌≢◌, ◌+◌, ◌<◌, ◌≤◌, ◌/◌, ◌%◌, ◌==◌, ◌⊎◌, nat_lt, Bool, true, false, if◌then◌else◌, Option, Some, None, IfSome, List, length, slice_index, slice_set, refl, sym, ap, subst, ◌∙◌, inl, inr, arith, eqb_tells, get_or-set_same, get_or-set_other, lt-ltb, some_same, put, IsSite, Site, Plan, arena_limit, at_word, control_words, entering_bit, entering_from, own_word, packed, Entering, OwnedArena, Port, Stands, Loaded, IsOld, IsOwner, Beside, LawfulEpochs, controls, numbers, site_now, arrived_port, Arrives, at_next_port, having_given, having_put, just_taken, owning_port, Takes, Gives, ExchangesEnteringWord, Puts, KeepsTime}, Lists.{put_all, put_other, put_same}, Tally.{IsBesideTally, IsHeld, NameAsBefore, OwnsAsBefore, counts_arrival, counts_beside, gives_looked, held_within, named_stays, owner_is, site_epoch, site_low, some_to, stands_at, use_stays, weight_as}, Weights.{sum_less, sum_within, weigh, weigh_away, weigh_here, weigh_within}}
 use Rattle.std.proofs.lemmas.Bool.{le-ltb}
 use Rattle.partial_epochs.specs.FreeArenas.{Counts, HasMetPort, HasSeenArrival, IsNamed, IsOwnedBySome, KeepsTally, Tally, credit, gives_at, gives_left, may_free, weight}
 
@@ -19,7 +19,7 @@ module _ (e : Plan) (words : List ℕ) (ports : ℕ → Port) (b : Beside) (k : 
   site_here : IsSite e here
   site_here = w.control.sites k below
 
-  low_here : packed here < entering_mark
+  low_here : packed here < entering_bit
   low_here = site_low e here w.plan.arenas site_here
 
   own_inside : (x : ℕ) → x < e.arenas → own_word e x < length words
@@ -35,7 +35,7 @@ module _ (e : Plan) (words : List ℕ) (ports : ℕ → Port) (b : Beside) (k : 
     arriving = arrived_port e k a.site a.before
 
     abbrev v : ℕ
-    v = if slice_index words (at_word k) == marked here then packed c else slice_index words (at_word k)
+    v = if slice_index words (at_word k) == entering_from here then packed c else slice_index words (at_word k)
 
     abbrev entered_words : List ℕ
     entered_words = slice_set words (at_word k) v
@@ -64,22 +64,22 @@ module _ (e : Plan) (words : List ℕ) (ports : ℕ → Port) (b : Beside) (k : 
     own x low = get_or-set_other words (at_word k) (own_word e x) v 0 (omega (arith, below))
 
     -- no word changes where the exchange is lost
-    lost_word : slice_index words (at_word k) ≢ marked here → (q : ℕ) → slice_index entered_words (at_word q) ≡ slice_index words (at_word q)
+    lost_word : slice_index words (at_word k) ≢ entering_from here → (q : ℕ) → slice_index entered_words (at_word q) ≡ slice_index words (at_word q)
     lost_word lost q = elim (eqb_tells q k) [
       | inl same ↦ subst (λ i. slice_index entered_words (at_word i) ≡ slice_index words (at_word i)) (sym same.1)
-          (elim (eqb_tells (slice_index words (at_word k)) (marked here)) [
+          (elim (eqb_tells (slice_index words (at_word k)) (entering_from here)) [
             | inl won ↦ absurd (lost won.1)
             | inr ne ↦ (let count = w.count in get_or-set_same words (at_word k) v 0 (omega (arith, count, below))) ∙ ap (λ (y : Bool). if y then packed c else slice_index words (at_word k)) ne.0
           ])
       | inr ne ↦ other q ne.1
     ]
 
-    lost_beside : slice_index words (at_word k) ≢ marked here → IsBesideTally e words entered_words ports k arriving t
+    lost_beside : slice_index words (at_word k) ≢ entering_from here → IsBesideTally e words entered_words ports k arriving t
     lost_beside lost = record {
       at = λ q _. lost_word lost q;
       own = own;
       owned = owned;
-      marks = tt;
+      entering_words = tt;
       met = λ _. tt;
     }
 
@@ -92,27 +92,27 @@ module _ (e : Plan) (words : List ℕ) (ports : ℕ → Port) (b : Beside) (k : 
         omega (arith, le)
 
     -- the step counts, won or lost
-    pub counts_entry : (now' : Site) → Counts e words entered_words ports (put k arriving ports) (site_now b) now' since since t k (ExchangesMark c)
-    counts_entry now' = elim (eqb_tells (slice_index words (at_word k)) (marked here)) [
+    pub counts_entry : (now' : Site) → Counts e words entered_words ports (put k arriving ports) (site_now b) now' since since t k (ExchangesEnteringWord c)
+    counts_entry now' = elim (eqb_tells (slice_index words (at_word k)) (entering_from here)) [
       | inl won ↦
           let is = won.1 in
-          counts_arrival e words entered_words ports k k arriving t s below other own owned (λ _. tt) (site_now b) now' since (ExchangesMark c) a.site.epoch (omega (arith, is))
-          (subst (λ u. u < entering_mark) (sym there) (site_low e a.site w.plan.arenas site)) (ap (λ u. u / arena_limit) there ∙ site_epoch e a.site w.plan.arenas site) late old
+          counts_arrival e words entered_words ports k k arriving t s below other own owned (λ _. tt) (site_now b) now' since (ExchangesEnteringWord c) a.site.epoch (omega (arith, is))
+          (subst (λ u. u < entering_bit) (sym there) (site_low e a.site w.plan.arenas site)) (ap (λ u. u / arena_limit) there ∙ site_epoch e a.site w.plan.arenas site) late old
           (λ ne. absurd (ne refl)) (λ q. refl) tt
-      | inr lost ↦ counts_beside e words entered_words ports b k arriving t w s (lost_beside lost.1) (site_now b) now' since (ExchangesMark c) (λ _. lost_less) (λ q. refl) tt
+      | inr lost ↦ counts_beside e words entered_words ports b k arriving t w s (lost_beside lost.1) (site_now b) now' since (ExchangesEnteringWord c) (λ _. lost_less) (λ q. refl) tt
     ]
 
   -- an owner puts the next port where it stands itself
-  module _ (o : OwnedArena) (a : Site) (is : (ports k).control.owned ≡ Some o) (looked : o.looked ≡ true) (low : o.clean < e.ports) (mark : o.mark ≡ Some a) (again : o.again ≡ true)
-      (at : slice_index words (at_word o.clean) ≡ marked a) (time : KeepsTime e words ports (site_now b) since) where
+  module _ (o : OwnedArena) (a : Site) (is : (ports k).control.owned ≡ Some o) (looked : o.looked ≡ true) (low : o.clean < e.ports) (entering_word : o.entering_word ≡ Some a) (again : o.again ≡ true)
+      (at : slice_index words (at_word o.clean) ≡ entering_from a) (time : KeepsTime e words ports (site_now b) since) where
     abbrev put_word : ℕ
-    put_word = if slice_index words (at_word o.clean) == marked a then packed here else slice_index words (at_word o.clean)
+    put_word = if slice_index words (at_word o.clean) == entering_from a then packed here else slice_index words (at_word o.clean)
 
     abbrev put_words : List ℕ
     put_words = slice_set words (at_word o.clean) put_word
 
     won : put_word ≡ packed here
-    won = elim (eqb_tells (slice_index words (at_word o.clean)) (marked a)) [
+    won = elim (eqb_tells (slice_index words (at_word o.clean)) (entering_from a)) [
       | inl is ↦ ap (λ (y : Bool). if y then packed here else slice_index words (at_word o.clean)) is.0
       | inr ne ↦ absurd (ne.1 at)
     ]
@@ -127,8 +127,8 @@ module _ (e : Plan) (words : List ℕ) (ports : ℕ → Port) (b : Beside) (k : 
         counts_arrival e words put_words ports k o.clean (having_put (ports k) o) t s low (λ q ne. get_or-set_other words (at_word o.clean) (at_word q) put_word 0 (omega (arith, ne)))
         (λ x _. get_or-set_other words (at_word o.clean) (own_word e x) put_word 0 (omega (arith, low)))
         (λ d was. (at_next_port o, refl, ap (λ (f : OwnedArena). f.arena) (some_same (sym is ∙ was)))) (λ _. inr looked) (site_now b) now' since (Puts o a) here.epoch (omega (arith, at))
-        (subst (λ u. u < entering_mark) (sym put_there) low_here) (ap (λ u. u / arena_limit) put_there ∙ site_epoch e here w.plan.arenas site_here)
-        (time.may_put k o.clean a below low (record { owned = o; is = is; port = refl; mark = mark; again = again }) at)
+        (subst (λ u. u < entering_bit) (sym put_there) low_here) (ap (λ u. u / arena_limit) put_there ∙ site_epoch e here w.plan.arenas site_here)
+        (time.may_put k o.clean a below low (record { owned = o; is = is; port = refl; entering_word = entering_word; again = again }) at)
         (subst (IsOld e now here) stands (w.control.old k below))
         (λ _. subst (λ (d : Option OwnedArena). gives_at (ports k).control.entering (ports k).control.past (Some (at_next_port o)) ≤ gives_at (ports k).control.entering (ports k).control.past d) (sym is)
         (gives_looked (ports k).control.entering (ports k).control.past o (at_next_port o) refl))
@@ -183,10 +183,10 @@ module _ (e : Plan) (words : List ℕ) (ports : ℕ → Port) (b : Beside) (k : 
             }
       ];
       taken = λ q low. put_all (λ i (n : ℕ). i < e.ports → n ≤ t.arrivals) k t.arrivals t.taken q (λ _ _. omega arith) (λ _ low. s.taken q low) low;
-      marks = λ q low. put_all (λ i (r : Port). i < e.ports → IfSome r.control.owned (λ o. IfSome o.mark (λ d. (slice_index taken_words (at_word o.clean) ≡ marked d) ⊎ HasSeenArrival taken_tally i))) k taker ports q
+      entering_words = λ q low. put_all (λ i (r : Port). i < e.ports → IfSome r.control.owned (λ o. IfSome o.entering_word (λ d. (slice_index taken_words (at_word o.clean) ≡ entering_from d) ⊎ HasSeenArrival taken_tally i))) k taker ports q
           (λ _ _. tt)
-          (λ ne low. some_to (λ (o : OwnedArena). IfSome o.mark (IsHeld e words t q o)) (λ (o : OwnedArena). IfSome o.mark (λ d. (slice_index taken_words (at_word o.clean) ≡ marked d) ⊎ HasSeenArrival taken_tally q))
-          (ports q).control.owned (λ o _. some_to (IsHeld e words t q o) (λ d. (slice_index taken_words (at_word o.clean) ≡ marked d) ⊎ HasSeenArrival taken_tally q) o.mark (λ d _ h. elim h [
+          (λ ne low. some_to (λ (o : OwnedArena). IfSome o.entering_word (IsHeld e words t q o)) (λ (o : OwnedArena). IfSome o.entering_word (λ d. (slice_index taken_words (at_word o.clean) ≡ entering_from d) ⊎ HasSeenArrival taken_tally q))
+          (ports q).control.owned (λ o _. some_to (IsHeld e words t q o) (λ d. (slice_index taken_words (at_word o.clean) ≡ entering_from d) ⊎ HasSeenArrival taken_tally q) o.entering_word (λ d _ h. elim h [
             | inl is ↦ inl (taken_at o.clean is.0 ∙ is.1)
             | inr has ↦ inr (seen q ne has)
           ])) (held_within e words ports b w t s q low)) low;
@@ -287,10 +287,10 @@ module _ (e : Plan) (words : List ℕ) (ports : ℕ → Port) (b : Beside) (k : 
             arena = was.arena;
           };
       taken = s.taken;
-      marks = λ q low. put_all (λ i (r : Port). i < e.ports → IfSome r.control.owned (λ f. IfSome f.mark (λ d. (slice_index given_words (at_word f.clean) ≡ marked d) ⊎ HasSeenArrival t i))) k giver ports q
+      entering_words = λ q low. put_all (λ i (r : Port). i < e.ports → IfSome r.control.owned (λ f. IfSome f.entering_word (λ d. (slice_index given_words (at_word f.clean) ≡ entering_from d) ⊎ HasSeenArrival t i))) k giver ports q
           (λ _ _. tt)
-          (λ ne low. some_to (λ (f : OwnedArena). IfSome f.mark (IsHeld e words t q f)) (λ (f : OwnedArena). IfSome f.mark (λ d. (slice_index given_words (at_word f.clean) ≡ marked d) ⊎ HasSeenArrival t q))
-          (ports q).control.owned (λ f _. some_to (IsHeld e words t q f) (λ d. (slice_index given_words (at_word f.clean) ≡ marked d) ⊎ HasSeenArrival t q) f.mark (λ d _ h. elim h [
+          (λ ne low. some_to (λ (f : OwnedArena). IfSome f.entering_word (IsHeld e words t q f)) (λ (f : OwnedArena). IfSome f.entering_word (λ d. (slice_index given_words (at_word f.clean) ≡ entering_from d) ⊎ HasSeenArrival t q))
+          (ports q).control.owned (λ f _. some_to (IsHeld e words t q f) (λ d. (slice_index given_words (at_word f.clean) ≡ entering_from d) ⊎ HasSeenArrival t q) f.entering_word (λ d _ h. elim h [
             | inl held ↦ inl (given_at f.clean held.0 ∙ held.1)
             | inr has ↦ inr has
           ])) (held_within e words ports b w t s q low)) low;
@@ -333,8 +333,8 @@ module _ (e : Plan) (words : List ℕ) (ports : ℕ → Port) (b : Beside) (k : 
     word_here : slice_index words (at_word k) ≡ packed here
     word_here = stands_at e words ports b w k below as_owner.stands
 
-    low_word : slice_index words (at_word k) < entering_mark
-    low_word = subst (λ u. u < entering_mark) (sym word_here) low_here
+    low_word : slice_index words (at_word k) < entering_bit
+    low_word = subst (λ u. u < entering_bit) (sym word_here) low_here
 
     epoch_word : slice_index words (at_word k) / arena_limit ≡ here.epoch
     epoch_word = ap (λ u. u / arena_limit) word_here ∙ site_epoch e here w.plan.arenas site_here

@@ -1,5 +1,5 @@
 -- An entering port enters no older epoch than the one that was the current one as it stored its entering word.
-use Rattle.partial_epochs.proofs.{Common.{ℕ, ◌≡◌, ◌≢◌, ◌+◌, ◌%◌, ◌^◌, ◌<◌, ◌≤◌, ◌==◌, ◌⊎◌, Bool, true, false, if◌then◌else◌, Some, None, List, slice_index, slice_set, refl, sym, ap, subst, ◌∙◌, inl, inr, arith, eqb_tells, get_or-set_same, get_or-set_other, some_same, words_after, Step, Load, Store, Exchange, Add, put, IsSite, Site, Plan, at_word, base, control_words, current_word, marked, packed, based_step, set_word, Control, OwnedArena, Port, Marks, Loaded, IsSiteWord, IsEarlier, MayPut, Beside, LawfulEpochs, site_now, arrived_port, having_loaded, having_looked, having_put, owning_port, having_published, next_site, ArrivalsKeepTime, AsidesKeepTime, EntriesKeepTime, IsBesideTime, KeepsTime, LoadedMarksKeepTime, LooksKeepTime, MarksKeepTime, OpeningsKeepTime, PublishesKeepTime, PutsKeepTime, StepsKeepSites}, Entering.{cw_at, current_is, held_mark, marked_epoch, not_marked}, Lists.{put_all, put_other, put_same}, Offsets.packed_arena}
+use Rattle.partial_epochs.proofs.{Common.{ℕ, ◌≡◌, ◌≢◌, ◌+◌, ◌%◌, ◌^◌, ◌<◌, ◌≤◌, ◌==◌, ◌⊎◌, Bool, true, false, if◌then◌else◌, Some, None, List, slice_index, slice_set, refl, sym, ap, subst, ◌∙◌, inl, inr, arith, eqb_tells, get_or-set_same, get_or-set_other, some_same, words_after, Step, Load, Store, Exchange, Add, put, IsSite, Site, Plan, at_word, base, control_words, current_word, entering_from, packed, based_step, set_word, Control, OwnedArena, Port, StoredEntering, Loaded, IsSiteWord, IsEarlier, MayPut, Beside, LawfulEpochs, site_now, arrived_port, having_loaded, having_looked, having_put, owning_port, having_published, next_site, ArrivalsKeepTime, AsidesKeepTime, EntriesKeepTime, IsBesideTime, KeepsTime, LoadedEnteringWordsKeepTime, LooksKeepTime, EnteringWordsKeepTime, OpeningsKeepTime, PublishesKeepTime, PutsKeepTime, StepsKeepSites}, Entering.{cw_at, current_is, held_entering, entering_epoch, not_entering_word}, Lists.{put_all, put_other, put_same}, Offsets.packed_arena}
 
 -- an arena that a port owns, and none
 none_some : (o : OwnedArena) → None ≡ Some o → ⊥
@@ -24,7 +24,7 @@ set_puts c d o next j a was is may =
       owned = o;
       is = was;
       port = ap (λ (t : OwnedArena). t.clean) same ∙ may.port;
-      mark = ap (λ (t : OwnedArena). t.mark) same ∙ may.mark;
+      entering_word = ap (λ (t : OwnedArena). t.entering_word) same ∙ may.entering_word;
       again = ap (λ (t : OwnedArena). t.again) same ∙ may.again;
     }
 
@@ -58,8 +58,8 @@ openings_keep_time e words = record {
   may_put = λ q k a inside low may at. omega arith;
 }
 
-pub marks_keep_time : MarksKeepTime
-marks_keep_time e words ports b k since w below stands free t = record {
+pub entering_words_keep_time : EnteringWordsKeepTime
+entering_words_keep_time e words ports b k since w below stands free t = record {
   past = λ q low. put_all (λ i (n : ℕ). i < e.ports → n ≤ (site_now b).epoch) k (site_now b).epoch since q (λ _ _. omega arith) (λ _ low. t.past q low) low;
   loaded = λ q c low is. loaded_then q c low is (eqb_tells q k);
   put = λ q c low site at. put_then q c low site at (eqb_tells q k);
@@ -68,23 +68,23 @@ marks_keep_time e words ports b k since w below stands free t = record {
 }
   where
     p : Port
-    p = record (ports k) { control = record (ports k).control { entering = Marks } }
+    p = record (ports k) { control = record (ports k).control { entering = StoredEntering } }
 
     since' : ℕ → ℕ
     since' = put k (site_now b).epoch since
 
     words' : List ℕ
-    words' = slice_set words (at_word k) (marked (ports k).control.here)
+    words' = slice_set words (at_word k) (entering_from (ports k).control.here)
 
     other : (q : ℕ) → q ≢ k → slice_index words' (at_word q) ≡ slice_index words (at_word q)
-    other q ne = get_or-set_other words (at_word k) (at_word q) (marked (ports k).control.here) 0 (omega (arith, ne))
+    other q ne = get_or-set_other words (at_word k) (at_word q) (entering_from (ports k).control.here) 0 (omega (arith, ne))
 
-    own_word_is : slice_index words' (at_word k) ≡ marked (ports k).control.here
-    own_word_is = let count = w.count in get_or-set_same words (at_word k) (marked (ports k).control.here) 0 (omega (arith, count, below))
+    own_word_is : slice_index words' (at_word k) ≡ entering_from (ports k).control.here
+    own_word_is = let count = w.count in get_or-set_same words (at_word k) (entering_from (ports k).control.here) 0 (omega (arith, count, below))
 
     loaded_then : (q : ℕ) (c : Site) → q < e.ports → (put k p ports q).control.entering ≡ Loaded c → (((q == k) ≡ true) × (q ≡ k)) ⊎ (((q == k) ≡ false) × (q ≢ k)) → since' q ≤ c.epoch
     loaded_then q c low is (inl same) =
-        let bad : Marks ≡ Loaded c = sym (ap (λ (r : Port). r.control.entering) (ap (put k p ports) same.1 ∙ put_same k p ports)) ∙ is in
+        let bad : StoredEntering ≡ Loaded c = sym (ap (λ (r : Port). r.control.entering) (ap (put k p ports) same.1 ∙ put_same k p ports)) ∙ is in
         absurd cc
     loaded_then q c low is (inr ne) =
         let was = t.loaded q c low (sym (ap (λ (r : Port). r.control.entering) (put_other k p ports q ne.1)) ∙ is) in
@@ -92,18 +92,18 @@ marks_keep_time e words ports b k since w below stands free t = record {
         omega (arith, was, so)
 
     put_then : (q : ℕ) (c : Site) → q < e.ports → IsSite e c → slice_index words' (at_word q) ≡ packed c → (((q == k) ≡ true) × (q ≡ k)) ⊎ (((q == k) ≡ false) × (q ≢ k)) → since' q ≤ c.epoch
-    put_then q c low site at (inl same) = absurd (not_marked e c (ports k).control.here w.plan.arenas site (sym at ∙ ap (λ i. slice_index words' (at_word i)) same.1 ∙ own_word_is))
+    put_then q c low site at (inl same) = absurd (not_entering_word e c (ports k).control.here w.plan.arenas site (sym at ∙ ap (λ i. slice_index words' (at_word i)) same.1 ∙ own_word_is))
     put_then q c low site at (inr ne) =
         let was = t.put q c low site (sym (other q ne.1) ∙ at) in
         let so = put_other k (site_now b).epoch since q ne.1 in
         omega (arith, was, so)
 
-    may_then : (q j : ℕ) (a : Site) → q < e.ports → j < e.ports → MayPut (ports q).control j a → slice_index words' (at_word j) ≡ marked a →
+    may_then : (q j : ℕ) (a : Site) → q < e.ports → j < e.ports → MayPut (ports q).control j a → slice_index words' (at_word j) ≡ entering_from a →
         (((j == k) ≡ true) × (j ≡ k)) ⊎ (((j == k) ≡ false) × (j ≢ k)) → since' j ≤ (ports q).control.here.epoch
     may_then q j a inside low may at (inl same) =
-        let mark = held_mark e words ports b k w below q a inside (subst (λ i. MayPut (ports q).control i a) same.1 may) in
-        let early : a.epoch < (ports k).control.here.epoch = subst (IsEarlier a (ports k).control.here) stands mark.1 in
-        let even = marked_epoch e a (ports k).control.here w.plan.arenas mark.0 (w.control.sites k below) (sym at ∙ ap (λ i. slice_index words' (at_word i)) same.1 ∙ own_word_is) in
+        let entering_word = held_entering e words ports b k w below q a inside (subst (λ i. MayPut (ports q).control i a) same.1 may) in
+        let early : a.epoch < (ports k).control.here.epoch = subst (IsEarlier a (ports k).control.here) stands entering_word.1 in
+        let even = entering_epoch e a (ports k).control.here w.plan.arenas entering_word.0 (w.control.sites k below) (sym at ∙ ap (λ i. slice_index words' (at_word i)) same.1 ∙ own_word_is) in
         absurd (omega (arith, early, even))
     may_then q j a inside low may at (inr ne) =
         let was = t.may_put q j a inside low may (sym (other j ne.1) ∙ at) in
@@ -117,7 +117,7 @@ entries_keep_time e words ports b k since below t = record {
       (λ _ low is. let same : site_now b ≡ c = cc in subst (λ (d : Site). since k ≤ d.epoch) same (t.past k low)) (λ _ low is. t.loaded q c low is) low;
   put = t.put;
   may_put = λ q j a inside low may at. put_all (λ i (r : Port). i < e.ports → MayPut r.control j a → since j ≤ r.control.here.epoch) k p ports q
-      (λ _ inside may. t.may_put k j a inside low (record { owned = may.owned; is = may.is; port = may.port; mark = may.mark; again = may.again }) at)
+      (λ _ inside may. t.may_put k j a inside low (record { owned = may.owned; is = may.is; port = may.port; entering_word = may.entering_word; again = may.again }) at)
       (λ _ inside may. t.may_put q j a inside low may at) inside may;
 }
   where
@@ -141,8 +141,8 @@ looks_keep_time e words ports b k o since w below here t = record {
     now_here : (site_now b).epoch ≡ (ports k).control.here.epoch
     now_here = (packed_arena e (site_now b) (ports k).control.here w.plan.arenas w.control.site.arena (w.control.sites k below).arena (sym (current_is e words ports b k w below) ∙ here)).0
 
-pub loaded_marks_keep_time : LoadedMarksKeepTime
-loaded_marks_keep_time e words ports now a k o since below t =
+pub loaded_entering_words_keep_time : LoadedEnteringWordsKeepTime
+loaded_entering_words_keep_time e words ports now a k o since below t =
     let p : Port = owning_port (ports k) (having_loaded o a) in
     asides_keep_time e words words ports (put k p ports) now now since
     (one_aside e words words ports k p now now (λ q low. refl) refl refl (λ j d may. absurd (not_again p.control (having_loaded o a) j d refl refl may)) (omega arith)) t
@@ -159,9 +159,9 @@ module _ (e : Plan) (words words' : List ℕ) (ports : ℕ → Port) (b : Beside
       subst (λ n. since n ≤ c.epoch) (sym same.1) (omega (arith, late, even))
   put_there i c low in_range at (inr ne) = t.put i c low in_range (sym (other i ne.1) ∙ at)
 
-  may_there : (r j : ℕ) (a : Site) → r < e.ports → j < e.ports → MayPut (ports r).control j a → slice_index words' (at_word j) ≡ marked a →
+  may_there : (r j : ℕ) (a : Site) → r < e.ports → j < e.ports → MayPut (ports r).control j a → slice_index words' (at_word j) ≡ entering_from a →
       (((j == q) ≡ true) × (j ≡ q)) ⊎ (((j == q) ≡ false) × (j ≢ q)) → since j ≤ (ports r).control.here.epoch
-  may_there r j a inside low may at (inl same) = absurd (not_marked e d a w.plan.arenas site (sym there ∙ sym (ap (λ n. slice_index words' (at_word n)) same.1) ∙ at))
+  may_there r j a inside low may at (inl same) = absurd (not_entering_word e d a w.plan.arenas site (sym there ∙ sym (ap (λ n. slice_index words' (at_word n)) same.1) ∙ at))
   may_there r j a inside low may at (inr ne) = t.may_put r j a inside low may (sym (other j ne.1) ∙ at)
 
   named : KeepsTime e words' (put k p ports) (site_now b) since
@@ -185,7 +185,7 @@ arrivals_keep_time e words ports b k c since w below entering t a = (
     p = arrived_port e k a.site a.before
 
     v : ℕ
-    v = if slice_index words (at_word k) == marked (ports k).control.here then packed c else slice_index words (at_word k)
+    v = if slice_index words (at_word k) == entering_from (ports k).control.here then packed c else slice_index words (at_word k)
 
     words' : List ℕ
     words' = slice_set words (at_word k) v
@@ -204,19 +204,19 @@ arrivals_keep_time e words ports b k c since w below entering t a = (
     ]
 
 pub puts_keep_time : PutsKeepTime
-puts_keep_time e words ports b k o a since w below owned low mark again there t =
+puts_keep_time e words ports b k o a since w below owned low entering_word again there t =
     named e words words' ports b k o.clean (having_put (ports k) o) (ports k).control.here since w t (λ i ne. get_or-set_other words (at_word o.clean) (at_word i) v 0 (omega (arith, ne))) put_there
-    (w.control.sites k below) (t.may_put k o.clean a below low (record { owned = o; is = owned; port = refl; mark = mark; again = again }) there) (λ d is. is)
-    (λ j d may. not_again (having_put (ports k) o).control (record o { clean = o.clean + 1; mark = None; again = false }) j d refl refl may)
+    (w.control.sites k below) (t.may_put k o.clean a below low (record { owned = o; is = owned; port = refl; entering_word = entering_word; again = again }) there) (λ d is. is)
+    (λ j d may. not_again (having_put (ports k) o).control (record o { clean = o.clean + 1; entering_word = None; again = false }) j d refl refl may)
   where
     v : ℕ
-    v = if slice_index words (at_word o.clean) == marked a then packed (ports k).control.here else slice_index words (at_word o.clean)
+    v = if slice_index words (at_word o.clean) == entering_from a then packed (ports k).control.here else slice_index words (at_word o.clean)
 
     words' : List ℕ
     words' = slice_set words (at_word o.clean) v
 
     won : v ≡ packed (ports k).control.here
-    won = elim (eqb_tells (slice_index words (at_word o.clean)) (marked a)) [
+    won = elim (eqb_tells (slice_index words (at_word o.clean)) (entering_from a)) [
       | inl is ↦ ap (λ (t : Bool). if t then packed (ports k).control.here else slice_index words (at_word o.clean)) is.0
       | inr ne ↦ absurd (ne.1 there)
     ]
@@ -230,7 +230,7 @@ publishes_keep_time e words ports now thereafter k o since below later t =
     let v : ℕ = (if slice_index words current_word == packed (ports k).control.here then packed (next_site (ports k).control.here o.arena) else slice_index words current_word) in
     asides_keep_time e words (slice_set words current_word v) ports (put k p ports) now thereafter since
     (one_aside e words (slice_set words current_word v) ports k p now thereafter (λ q low. get_or-set_other words current_word (at_word q) v 0 (omega arith)) refl refl
-    (λ j d may. absurd (not_again p.control (record o { looked = false; clean = 0; mark = None; again = false; set = 0 }) j d refl refl may)) later) t
+    (λ j d may. absurd (not_again p.control (record o { looked = false; clean = 0; entering_word = None; again = false; set = 0 }) j d refl refl may)) later) t
 
 -- a word after those of the ports is another than each of them
 behind : (e : Plan) (words : List ℕ) (k i v : ℕ) → k < e.ports → 1 + e.ports ≤ i → slice_index (slice_set words i v) (at_word k) ≡ slice_index words (at_word k)

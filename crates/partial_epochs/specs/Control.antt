@@ -1,23 +1,23 @@
 -- The control words: which epoch is the current one, where each port stands, and who owns which arena.
 use Rattle.std.specs.Prelude.{ℕ, ◌+◌, ◌<◌, ◌≤◌, List, slice_index, Option, ◌≡◌, ◌≢◌, ◌⊎◌, ⊤, true, Some, None, IfSome}
-use Rattle.partial_epochs.specs.Layout.{Plan, Site, packed, marked, IsSite, current_word, at_word, own_word}
+use Rattle.partial_epochs.specs.Layout.{Plan, Site, packed, entering_from, IsSite, current_word, at_word, own_word}
 use Rattle.partial_epochs.specs.Ports.{Entering, OwnedArena, Control}
-use Rattle.partial_epochs.specs.Ports.Entering.{Stands, Marks, Loaded}
+use Rattle.partial_epochs.specs.Ports.Entering.{Stands, StoredEntering, Loaded}
 
 -- port k is entering, and its word is still its entering word
-abbrev pub IsStillMarked : List ℕ → Control → ℕ → Type 0
-IsStillMarked words c k = slice_index words (at_word k) ≡ marked c.here
+abbrev pub IsStillEntering : List ℕ → Control → ℕ → Type 0
+IsStillEntering words c k = slice_index words (at_word k) ≡ entering_from c.here
 
 -- the word where a port stands: while it is entering it is its entering word, or a later site that another port has put
 abbrev pub IsSiteWord : Plan → List ℕ → ℕ → Site → Entering → Type 0
 IsSiteWord e words k here Stands = slice_index words (at_word k) ≡ packed here
-IsSiteWord e words k here _ = (slice_index words (at_word k) ≡ marked here)
+IsSiteWord e words k here _ = (slice_index words (at_word k) ≡ entering_from here)
     ⊎ ((c : Site) × IsSite e c × (slice_index words (at_word k) ≡ packed c) × (here.epoch < c.epoch))
 
 -- how a port that is entering stands to the current epoch
 abbrev pub IsOld : Plan → ℕ → Site → Entering → Type 0
 IsOld e now here Stands = here.epoch ≤ now
-IsOld e now here Marks = here.epoch < now
+IsOld e now here StoredEntering = here.epoch < now
 IsOld e now here (Loaded c) = (here.epoch < c.epoch) × (c.epoch ≤ now) × IsSite e c
 
 -- An entering word of a port that another port has loaded: it is of an earlier epoch than the one where that port stands, or no
@@ -39,18 +39,18 @@ pub record MayPut (q : Control) (k : ℕ) (a : Site) : Type 0 where
   -- k is the port that it looks at next
   pub port : owned.clean ≡ k
   -- it holds that entering word of k
-  pub mark : owned.mark ≡ Some a
+  pub entering_word : owned.entering_word ≡ Some a
   -- it has looked at the current word since it loaded the entering word
   pub again : owned.again ≡ true
 
 -- port k is out of the arena x, and doesn't come into it
 pub record IsOut (e : Plan) (words : List ℕ) (cs : ℕ → Control) (x k : ℕ) : Type 0 where
   -- its word names no site in that arena
-  pub unmarked : (c : Site) → IsSite e c → slice_index words (at_word k) ≡ packed c → c.arena ≢ x
+  pub without_bit : (c : Site) → IsSite e c → slice_index words (at_word k) ≡ packed c → c.arena ≢ x
   -- it hasn't loaded such a site, or its exchange of the entering word will be lost
-  pub loaded : IsStillMarked words (cs k) k → NotInto x (cs k).entering
+  pub loaded : IsStillEntering words (cs k) k → NotInto x (cs k).entering
   -- no port that may put it stands in that arena
-  pub put : (q : ℕ) (a : Site) → q < e.ports → MayPut (cs q) k a → slice_index words (at_word k) ≡ marked a →
+  pub put : (q : ℕ) (a : Site) → q < e.ports → MayPut (cs q) k a → slice_index words (at_word k) ≡ entering_from a →
       (cs q).here.arena ≢ x
 
 -- what is so of an arena that port k owns
@@ -73,9 +73,9 @@ pub record IsOwner (e : Plan) (words : List ℕ) (cs : ℕ → Control) (now : S
   -- each port with which it is done is out of the arena, but for itself
   pub out : (q : ℕ) → q < w.clean → q < e.ports → q ≢ k → IsOut e words cs w.arena q
   -- an entering word that it holds, and has looked since, is of an epoch before its own
-  pub older : w.again ≡ true → IfSome w.mark (λ a. a.epoch < (cs k).here.epoch)
+  pub older : w.again ≡ true → IfSome w.entering_word (λ a. a.epoch < (cs k).here.epoch)
   -- an entering word that it holds never comes back, once its port has stored a later one
-  pub held : IfSome w.mark (λ a. IsSite e a × IsEarlier a (cs w.clean).here (cs w.clean).entering)
+  pub held : IfSome w.entering_word (λ a. IsSite e a × IsEarlier a (cs w.clean).here (cs w.clean).entering)
   -- it sets words of the arena only once it is done with all ports
   pub all : 0 < w.set → w.clean ≡ e.ports
   -- while it sets words the arena holds no epoch
@@ -106,7 +106,7 @@ pub record LawfulControl (e : Plan) (words : List ℕ) (cs : ℕ → Control) (n
   pub stands : (k : ℕ) (c : Site) → k < e.ports → IsSite e c → slice_index words (at_word k) ≡ packed c →
       holds c.arena ≡ Some c.epoch
   -- so does the arena into which an entering port is about to come
-  pub comes : (k : ℕ) (c : Site) → k < e.ports → (cs k).entering ≡ Loaded c → IsStillMarked words (cs k) k →
+  pub comes : (k : ℕ) (c : Site) → k < e.ports → (cs k).entering ≡ Loaded c → IsStillEntering words (cs k) k →
       holds c.arena ≡ Some c.epoch
   -- each port that owns an arena is its owner
   pub owners : (k : ℕ) → k < e.ports → IfSome (cs k).owned (IsOwner e words cs now holds k)

@@ -5,10 +5,10 @@ use Rattle.partial_model.specs.declared.history.Applied.{Applied}
 use Rattle.partial_core.specs.Part.{fresh_part}
 use Rattle.partial_words.specs.Step.{words_after}
 use Rattle.partial_epochs.specs.Lists.{put}
-use Rattle.partial_epochs.specs.Layout.{Plan, Site, packed, marked, current_word, at_word}
+use Rattle.partial_epochs.specs.Layout.{Plan, Site, packed, entering_from, current_word, at_word}
 use Rattle.partial_epochs.specs.Ports.{Port}
 use Rattle.partial_epochs.specs.Epochs.{Beside, site_now, LawfulEpochs, IsPresent}
-use Rattle.partial_epochs.specs.Ports.Entering.{Stands, Marks, Loaded}
+use Rattle.partial_epochs.specs.Ports.Entering.{Stands, StoredEntering, Loaded}
 
 -- a port that has seen another current word than that of its site
 abbrev pub having_passed : Port → Port
@@ -23,16 +23,16 @@ LooksAreTrue = (e : Plan) (words : List ℕ) (ports : ℕ → Port) (b : Beside)
     × LawfulEpochs e words (put k (having_passed (ports k)) ports) b)
 
 -- the first step of entering: a port whose epoch has passed, and that owns no arena, stores its entering word
-abbrev pub MarksStayLawful : Type 0
-MarksStayLawful = (e : Plan) (words : List ℕ) (ports : ℕ → Port) (b : Beside) (k : ℕ) → LawfulEpochs e words ports b → k < e.ports →
+abbrev pub EnteringWordsStayLawful : Type 0
+EnteringWordsStayLawful = (e : Plan) (words : List ℕ) (ports : ℕ → Port) (b : Beside) (k : ℕ) → LawfulEpochs e words ports b → k < e.ports →
     (ports k).control.entering ≡ Stands → (ports k).control.past ≡ true → (ports k).control.owned ≡ None →
-    LawfulEpochs e (words_after words (Store (at_word k) (marked (ports k).control.here)))
-    (put k (record (ports k) { control = record (ports k).control { entering = Marks } }) ports) b
+    LawfulEpochs e (words_after words (Store (at_word k) (entering_from (ports k).control.here)))
+    (put k (record (ports k) { control = record (ports k).control { entering = StoredEntering } }) ports) b
 
 -- the second: it loads the current site
 abbrev pub EntriesLoad : Type 0
 EntriesLoad = (e : Plan) (words : List ℕ) (ports : ℕ → Port) (b : Beside) (k : ℕ) → LawfulEpochs e words ports b → k < e.ports →
-    (ports k).control.entering ≡ Marks →
+    (ports k).control.entering ≡ StoredEntering →
     (slice_index words current_word ≡ packed (site_now b))
     × LawfulEpochs e words (put k (record (ports k) { control = record (ports k).control { entering = Loaded (site_now b) } }) ports) b
 
@@ -50,11 +50,11 @@ arrived_port e k c before = record {
 -- that another port has put.
 pub record Arrives (e : Plan) (words : List ℕ) (ports : ℕ → Port) (b : Beside) (k : ℕ) (c : Site) : Type 0 where
   pub site : Site
-  pub is : ((slice_index words (at_word k) ≡ marked (ports k).control.here) × (site ≡ c)) ⊎ (slice_index words (at_word k) ≡ packed site)
+  pub is : ((slice_index words (at_word k) ≡ entering_from (ports k).control.here) × (site ≡ c)) ⊎ (slice_index words (at_word k) ≡ packed site)
   pub before : List (List Applied)
   pub epoch : length before ≡ site.epoch
   pub later : (ports k).control.here.epoch < site.epoch
-  pub lawful : LawfulEpochs e (words_after words (Exchange (at_word k) (marked (ports k).control.here) (packed c)))
+  pub lawful : LawfulEpochs e (words_after words (Exchange (at_word k) (entering_from (ports k).control.here) (packed c)))
       (put k (arrived_port e k site before) ports) b
 
 -- with that step the state stays lawful

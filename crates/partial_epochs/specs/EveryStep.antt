@@ -11,9 +11,9 @@ use Rattle.partial_machine.specs.Machine.{CoreState, advance, reply_of, step_of}
 use Rattle.partial_core.specs.Part.{IsMachineOf}
 use Rattle.partial_core.specs.Steps.{since_with}
 use Rattle.partial_epochs.specs.Lists.{put}
-use Rattle.partial_epochs.specs.Layout.{IsSite, IsSealed, IsToBeSet, Site, Plan, arena_words, at_word, base, component_words, current_word, entering_mark, marked, own_word, packed, based_step, seal, set_word, unpacked}
+use Rattle.partial_epochs.specs.Layout.{IsSite, IsSealed, IsToBeSet, Site, Plan, arena_words, at_word, base, component_words, current_word, entering_bit, entering_from, own_word, packed, based_step, seal, set_word, unpacked}
 use Rattle.partial_epochs.specs.Ports.{OwnedArena, Port}
-use Rattle.partial_epochs.specs.Ports.Entering.{Stands, Marks, Loaded}
+use Rattle.partial_epochs.specs.Ports.Entering.{Stands, StoredEntering, Loaded}
 use Rattle.partial_epochs.specs.Entering.{Arrives, arrived_port, having_passed}
 use Rattle.partial_epochs.specs.Owning.{having_given, having_loaded, having_looked, having_put, just_taken, owning_port}
 use Rattle.partial_epochs.specs.Sealing.{IsBesideAs, passing_port}
@@ -37,15 +37,15 @@ pub data Move : Type 0 where
   Looks : Move
   LooksAsOwner : OwnedArena → Move
   -- the three steps of entering
-  StoresMark : Move
+  StoresEnteringWord : Move
   LoadsCurrent : Move
-  ExchangesMark : Site → Move
+  ExchangesEnteringWord : Site → Move
   -- the won exchange of an owner word, and the store that gives the arena back
   Takes : ℕ → Move
   Gives : OwnedArena → Move
   -- an owner finds the next port elsewhere, loads its entering word, or puts it where it stands itself
   FindsElsewhere : OwnedArena → Site → Move
-  LoadsMark : OwnedArena → Move
+  LoadsEnteringWord : OwnedArena → Move
   Puts : OwnedArena → Site → Move
   -- an owner sets the next word, so that the words below that number count as set
   Sets : OwnedArena → ℕ → ℕ → Move
@@ -61,11 +61,11 @@ pub data Move : Type 0 where
 abbrev pub moved_words : Plan → List ℕ → Port → ℕ → Move → List ℕ
 moved_words e words p k (Makes c step notes) = words_after words (based_step e p.control.here.arena step)
 moved_words e words p k Seals = words_after words (Add (base e p.control.here.arena + p.passed) seal)
-moved_words e words p k StoresMark = words_after words (Store (at_word k) (marked p.control.here))
-moved_words e words p k (ExchangesMark c) = words_after words (Exchange (at_word k) (marked p.control.here) (packed c))
+moved_words e words p k StoresEnteringWord = words_after words (Store (at_word k) (entering_from p.control.here))
+moved_words e words p k (ExchangesEnteringWord c) = words_after words (Exchange (at_word k) (entering_from p.control.here) (packed c))
 moved_words e words p k (Takes x) = words_after words (Exchange (own_word e x) 0 (k + 1))
 moved_words e words p k (Gives o) = words_after words (Store (own_word e o.arena) 0)
-moved_words e words p k (Puts o a) = words_after words (Exchange (at_word o.clean) (marked a) (packed p.control.here))
+moved_words e words p k (Puts o a) = words_after words (Exchange (at_word o.clean) (entering_from a) (packed p.control.here))
 moved_words e words p k (Sets o v next) = words_after words (Store (set_word e o.arena o.set) v)
 moved_words e words p k (Publishes o) = words_after words
     (Exchange current_word (packed p.control.here) (packed (next_site p.control.here o.arena)))
@@ -77,12 +77,12 @@ port_after words p Seals = passing_port p
 port_after words p PassesSealed = passing_port p
 port_after words p Looks = if slice_index words current_word == packed p.control.here then p else having_passed p
 port_after words p (LooksAsOwner o) = if slice_index words current_word == packed p.control.here then having_looked p o else having_passed p
-port_after words p StoresMark = record p { control = record p.control { entering = Marks } }
+port_after words p StoresEnteringWord = record p { control = record p.control { entering = StoredEntering } }
 port_after words p LoadsCurrent = record p { control = record p.control { entering = Loaded (unpacked (slice_index words current_word)) } }
 port_after words p (Takes x) = owning_port p (just_taken x)
 port_after words p (Gives o) = having_given p
 port_after words p (FindsElsewhere o d) = having_put p o
-port_after words p (LoadsMark o) = owning_port p (having_loaded o (unpacked (slice_index words (at_word o.clean) - entering_mark)))
+port_after words p (LoadsEnteringWord o) = owning_port p (having_loaded o (unpacked (slice_index words (at_word o.clean) - entering_bit)))
 port_after words p (Puts o a) = having_put p o
 port_after words p (Sets o v next) = having_set p o next
 port_after words p (FindsClear o next) = having_set p o next
@@ -107,20 +107,20 @@ MayMove e words ports b notes k Seals = ((ports k).control.entering ≡ Stands) 
 MayMove e words ports b notes k PassesSealed = ((ports k).control.entering ≡ Stands) × ((ports k).passed < e.sizes.m)
     × IsSealed (slice_index (component_words e words (ports k).control.here.arena) (ports k).passed)
 MayMove e words ports b notes k Looks = ((ports k).control.entering ≡ Stands) × ((ports k).control.owned ≡ None)
-MayMove e words ports b notes k (LooksAsOwner o) = ((ports k).control.owned ≡ Some o) × ((o.mark ≡ None) ⊎ (o.clean < e.ports))
-MayMove e words ports b notes k StoresMark = ((ports k).control.entering ≡ Stands) × ((ports k).control.past ≡ true)
+MayMove e words ports b notes k (LooksAsOwner o) = ((ports k).control.owned ≡ Some o) × ((o.entering_word ≡ None) ⊎ (o.clean < e.ports))
+MayMove e words ports b notes k StoresEnteringWord = ((ports k).control.entering ≡ Stands) × ((ports k).control.past ≡ true)
     × ((ports k).control.owned ≡ None)
-MayMove e words ports b notes k LoadsCurrent = (ports k).control.entering ≡ Marks
-MayMove e words ports b notes k (ExchangesMark c) = (ports k).control.entering ≡ Loaded c
+MayMove e words ports b notes k LoadsCurrent = (ports k).control.entering ≡ StoredEntering
+MayMove e words ports b notes k (ExchangesEnteringWord c) = (ports k).control.entering ≡ Loaded c
 MayMove e words ports b notes k (Takes x) = ((ports k).control.entering ≡ Stands) × ((ports k).control.owned ≡ None) × (x < e.arenas)
     × ((ports k).control.here.arena ≢ x) × (slice_index words (own_word e x) ≡ 0)
 MayMove e words ports b notes k (Gives o) = (ports k).control.owned ≡ Some o
 MayMove e words ports b notes k (FindsElsewhere o d) = ((ports k).control.owned ≡ Some o) × (o.looked ≡ true) × (o.set ≡ 0)
     × (o.clean < e.ports) × IsSite e d × (slice_index words (at_word o.clean) ≡ packed d) × (d.arena ≢ o.arena)
-MayMove e words ports b notes k (LoadsMark o) =
-    ((ports k).control.owned ≡ Some o) × (o.clean < e.ports) × (entering_mark ≤ slice_index words (at_word o.clean))
+MayMove e words ports b notes k (LoadsEnteringWord o) =
+    ((ports k).control.owned ≡ Some o) × (o.clean < e.ports) × (entering_bit ≤ slice_index words (at_word o.clean))
 MayMove e words ports b notes k (Puts o a) = ((ports k).control.owned ≡ Some o) × (o.looked ≡ true) × (o.clean < e.ports) × (o.set ≡ 0)
-    × (o.mark ≡ Some a) × (o.again ≡ true) × (slice_index words (at_word o.clean) ≡ marked a)
+    × (o.entering_word ≡ Some a) × (o.again ≡ true) × (slice_index words (at_word o.clean) ≡ entering_from a)
 MayMove e words ports b notes k (Sets o v next) = ((ports k).control.owned ≡ Some o) × (o.clean ≡ e.ports) × (o.set < next)
     × (next ≤ first_free e.sizes + e.sizes.m) × (e.sizes.m ≤ (ports k).passed)
     × (slice_index words current_word ≡ packed (ports k).control.here → (i : ℕ) → o.set ≤ i → i < next → IsToBeSet e.sizes i →
@@ -148,12 +148,12 @@ MayAdd e words p _ = ⊥
 
 -- where the port is after the move: the third step of entering brings it to a later epoch, and all others leave it where it is
 abbrev pub IsSiteAfter : Move → Site → Site → Type 0
-IsSiteAfter (ExchangesMark c) here there = here.epoch < there.epoch
+IsSiteAfter (ExchangesEnteringWord c) here there = here.epoch < there.epoch
 IsSiteAfter _ here there = there ≡ here
 
 -- for each port the number of the epoch that was the current one as it stored its last entering word, after the move
 abbrev pub since_after : Beside → ℕ → Move → (ℕ → ℕ) → ℕ → ℕ
-since_after b k StoresMark since = put k (length b.before) since
+since_after b k StoresEnteringWord since = put k (length b.before) since
 since_after b k _ since = since
 
 -- What becomes of the port that makes the move, and of what stands beside the words, and what the port notes.
@@ -165,7 +165,7 @@ Becomes e words ports b k (Makes c step notes) p there added =
     ⊎ ((lead : MachineLeads e words ports b k c step) × (p ≡ lead.port) × (there ≡ lead.beside)
     × (added ≡ noted_after e (ports k) notes lead.tells.new))
 -- the port enters a site that is no older than the epoch that was the current one as it stored its entering word, with a new part there
-Becomes e words ports b k (ExchangesMark c) p there added =
+Becomes e words ports b k (ExchangesEnteringWord c) p there added =
     (a : Arrives e words ports b k c) × (p ≡ arrived_port e k a.site a.before) × (there ≡ b) × (added ≡ [])
     × ((since : ℕ → ℕ) → KeepsTime e words ports (site_now b) since → since k ≤ a.site.epoch)
 -- the exchange opens the next epoch, where the port's epoch is the current one

@@ -2,7 +2,7 @@
 use Rattle.std.specs.Prelude.{⊤, ℕ, zero, suc, ◌≡◌, ◌≢◌, ◌+◌, ◌*◌, ◌%◌, ◌<◌, ◌≤◌, ◌==◌, ◌⊎◌, nat_lt, Bool, true, false, List, slice_index, Option, Some, None, IfSome, if◌then◌else◌}
 use Rattle.partial_model.specs.Notes.{Noted}
 use Rattle.partial_epochs.specs.Lists.{put}
-use Rattle.partial_epochs.specs.Layout.{Plan, Site, arena_limit, at_word, entering_mark, marked, own_word, unpacked}
+use Rattle.partial_epochs.specs.Layout.{Plan, Site, arena_limit, at_word, entering_bit, entering_from, own_word, unpacked}
 use Rattle.partial_epochs.specs.Ports.{Control, Entering, OwnedArena, Port}
 use Rattle.partial_epochs.specs.Ports.Entering.{Stands}
 use Rattle.partial_epochs.specs.Epochs.{Beside, LawfulEpochs, site_now}
@@ -64,8 +64,8 @@ pub record KeepsTally (e : Plan) (words : List ℕ) (ports : ℕ → Port) (t : 
   -- no arena was taken after more arrivals than there have been
   pub taken : (k : ℕ) → k < e.ports → t.taken k ≤ t.arrivals
   -- an entering word that an owner holds is still its port's word, unless a port has moved to another site since
-  pub marks : (k : ℕ) → k < e.ports → IfSome (ports k).control.owned (λ o. IfSome o.mark (λ a.
-      (slice_index words (at_word o.clean) ≡ marked a) ⊎ HasSeenArrival t k))
+  pub entering_words : (k : ℕ) → k < e.ports → IfSome (ports k).control.owned (λ o. IfSome o.entering_word (λ a.
+      (slice_index words (at_word o.clean) ≡ entering_from a) ⊎ HasSeenArrival t k))
   -- a port that has met another one did so for a cause
   pub met : (k : ℕ) → k < e.ports → t.met k ≡ true → IfSome (ports k).control.owned (HasMetPort e words (ports k).control t k)
 
@@ -94,7 +94,7 @@ credit t k (Some o) = if nat_lt (t.taken k) t.arrivals then 1 else 0
 -- for itself, and once for each other port, which may give back an arena then.
 abbrev pub weight : Plan → List ℕ → (ℕ → Port) → ℕ → (ℕ → ℕ) → Tally → ℕ → ℕ
 weight e words ports now since t k =
-    if nat_lt (slice_index words (at_word k)) entering_mark
+    if nat_lt (slice_index words (at_word k)) entering_bit
     then (if (unpacked (slice_index words (at_word k))).epoch == now then credit t k (ports k).control.owned
     else (e.ports + 1) + gives_left (ports k).control)
     else (if nat_lt (since k) now then 2 * e.ports + 3 else e.ports + 1)

@@ -38,8 +38,8 @@ abbrev pub epoch_limit : ℕ
 epoch_limit = 2199023255552
 
 -- the entering bit: the highest bit of a word
-abbrev pub entering_mark : ℕ
-entering_mark = 9223372036854775808
+abbrev pub entering_bit : ℕ
+entering_bit = 9223372036854775808
 
 -- the word of a site
 abbrev pub packed : Site → ℕ
@@ -50,8 +50,8 @@ abbrev pub unpacked : ℕ → Site
 unpacked w = record { epoch = w / arena_limit; arena = w % arena_limit }
 
 -- an entering word: the word of a site with the entering bit, whose port is entering from there
-abbrev pub marked : Site → ℕ
-marked p = entering_mark + packed p
+abbrev pub entering_from : Site → ℕ
+entering_from p = entering_bit + packed p
 
 -- the site fits a word, beside the entering bit
 pub record IsSite (e : Plan) (p : Site) : Type 0 where

@@ -10,7 +10,7 @@ use Rattle.partial_words.specs.Step.{answer_of, word_of, words_after}
 use Rattle.partial_model.specs.declared.call.Refused.{Refused}
 use Rattle.partial_machine.specs.declared.stage.Reply.{Reply}
 use Rattle.partial_machine.specs.Machine.{CoreState, advance, reply_of, step_of}
-use Rattle.partial_core.specs.Steps.{Tells}
+use Rattle.partial_core.specs.Steps.{StepShows}
 use Rattle.partial_epochs.specs.Lists.{put}
 use Rattle.partial_epochs.specs.Layout.{Plan, component_words, unsealed, IsSealed, plain, arena_words, based_step, slot_limit}
 use Rattle.partial_epochs.specs.History.{opened_after}
@@ -56,7 +56,7 @@ pub record MachineLeads (e : Plan) (words : List ℕ) (ports : ℕ → Port) (b 
   pub before : port.before ≡ (ports k).before
   pub passed : port.passed ≡ (ports k).passed
   pub over : port.over ≡ ((ports k).over || ends_over e (arena_words e words (ports k).control.here.arena) step)
-  pub tells : Tells e.sizes (opened_after e.opening (ports k).before) standing.epoch.log entries (ports k).part c
+  pub tells : StepShows e.sizes (opened_after e.opening (ports k).before) standing.epoch.log entries (ports k).part c
       (answer_of (arena_words e words (ports k).control.here.arena) step) port.part
   -- the history grows in the current epoch alone
   pub present : (entries ≡ []) ⊎ IsPresent b k (ports k)

@@ -18,7 +18,7 @@ use Rattle.partial_machine.specs.Machine.{CoreState}
 use Rattle.partial_core.specs.Part.{with_seen}
 use Rattle.partial_core.specs.Steps.{since_with}
 use Rattle.partial_epochs.specs.Lists.{put}
-use Rattle.partial_epochs.specs.Layout.{Site, Plan, at_word, marked, packed, based_step}
+use Rattle.partial_epochs.specs.Layout.{Site, Plan, at_word, entering_from, packed, based_step}
 use Rattle.partial_epochs.specs.History.{stamp_after, history_of, opened_after, public_stamp, stamp_limit}
 use Rattle.partial_epochs.specs.Ports.{OwnedArena, Port}
 use Rattle.partial_epochs.specs.Ports.Entering.{Stands}
@@ -153,7 +153,7 @@ AsidesStayLawful = (e : Plan) (words words' : List ℕ) (ports : ℕ → Port) (
 abbrev pub ArrivalsKeepNotes : Type 0
 ArrivalsKeepNotes = (e : Plan) (words : List ℕ) (ports : ℕ → Port) (b : Beside) (notes : ℕ → List Noted) (k : ℕ) (c : Site) →
     LawfulMemory e words ports b notes → k < e.ports → (a : Arrives e words ports b k c) →
-    LawfulMemory e (words_after words (Exchange (at_word k) (marked (ports k).control.here) (packed c)))
+    LawfulMemory e (words_after words (Exchange (at_word k) (entering_from (ports k).control.here) (packed c)))
     (put k (arrived_port e k a.site a.before) ports) b notes
 
 -- so does the exchange that opens the next epoch: in the one history nothing changes

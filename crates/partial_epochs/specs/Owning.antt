@@ -3,7 +3,7 @@ use Rattle.std.specs.Prelude.{ℕ, ◌+◌, ◌<◌, ◌≤◌, List, slice_inde
 use Rattle.partial_words.specs.declared.step.Step.TheVariants.{Exchange, Store}
 use Rattle.partial_words.specs.Step.{words_after}
 use Rattle.partial_epochs.specs.Lists.{put}
-use Rattle.partial_epochs.specs.Layout.{Plan, Site, IsSite, packed, marked, entering_mark, current_word, at_word, own_word}
+use Rattle.partial_epochs.specs.Layout.{Plan, Site, IsSite, packed, entering_from, entering_bit, current_word, at_word, own_word}
 use Rattle.partial_epochs.specs.Ports.{OwnedArena, Port}
 use Rattle.partial_epochs.specs.Ports.Entering.{Stands}
 use Rattle.partial_epochs.specs.Epochs.{Beside, LawfulEpochs, IsPresent}
@@ -16,13 +16,13 @@ having_looked p o = record p { control = record p.control { owned = Some (record
 -- an owner loads its own site as the current one: its arena isn't the current one
 abbrev pub OwnersLook : Type 0
 OwnersLook = (e : Plan) (words : List ℕ) (ports : ℕ → Port) (b : Beside) (k : ℕ) (o : OwnedArena) → LawfulEpochs e words ports b →
-    k < e.ports → (ports k).control.owned ≡ Some o → (o.mark ≡ None) ⊎ (o.clean < e.ports) →
+    k < e.ports → (ports k).control.owned ≡ Some o → (o.entering_word ≡ None) ⊎ (o.clean < e.ports) →
     slice_index words current_word ≡ packed (ports k).control.here →
     IsPresent b k (ports k) × LawfulEpochs e words (put k (having_looked (ports k) o) ports) b
 
 -- the arena of an owner that is done with the port `clean`, and goes to the next one
 abbrev pub at_next_port : OwnedArena → OwnedArena
-at_next_port o = record o { clean = o.clean + 1; mark = None; again = false }
+at_next_port o = record o { clean = o.clean + 1; entering_word = None; again = false }
 
 -- the port once it is done with the port `clean`
 abbrev pub having_put : Port → OwnedArena → Port
@@ -33,8 +33,8 @@ having_put p o = record p { control = record p.control { owned = Some (at_next_p
 abbrev pub PutsStayLawful : Type 0
 PutsStayLawful = (e : Plan) (words : List ℕ) (ports : ℕ → Port) (b : Beside) (k : ℕ) (o : OwnedArena) (a : Site) →
     LawfulEpochs e words ports b → k < e.ports → (ports k).control.owned ≡ Some o → o.looked ≡ true → o.clean < e.ports → o.set ≡ 0 →
-    o.mark ≡ Some a → o.again ≡ true → slice_index words (at_word o.clean) ≡ marked a →
-    LawfulEpochs e (words_after words (Exchange (at_word o.clean) (marked a) (packed (ports k).control.here)))
+    o.entering_word ≡ Some a → o.again ≡ true → slice_index words (at_word o.clean) ≡ entering_from a →
+    LawfulEpochs e (words_after words (Exchange (at_word o.clean) (entering_from a) (packed (ports k).control.here)))
     (put k (having_put (ports k) o) ports) b
 
 -- the port as the owner of that arena
@@ -43,7 +43,7 @@ owning_port p o = record p { control = record p.control { owned = Some o } }
 
 -- an arena that a port just got for its own
 abbrev pub just_taken : ℕ → OwnedArena
-just_taken x = record { arena = x; looked = false; clean = 0; mark = None; again = false; set = 0 }
+just_taken x = record { arena = x; looked = false; clean = 0; entering_word = None; again = false; set = 0 }
 
 -- A port takes an arena, in which it doesn't stand itself, by an exchange of the owner word that is won.
 abbrev pub TakesStayLawful : Type 0
@@ -71,13 +71,13 @@ OthersAreElsewhere = (e : Plan) (words : List ℕ) (ports : ℕ → Port) (b : B
 
 -- an owner that holds the entering word of the next port, and hasn't looked since
 abbrev pub having_loaded : OwnedArena → Site → OwnedArena
-having_loaded o a = record o { mark = Some a; again = false }
+having_loaded o a = record o { entering_word = Some a; again = false }
 
 -- an owner loads the entering word of the next port: it is that of the site which that port is entering from
-abbrev pub MarksAreLoaded : Type 0
-MarksAreLoaded = (e : Plan) (words : List ℕ) (ports : ℕ → Port) (b : Beside) (k : ℕ) (o : OwnedArena) → LawfulEpochs e words ports b →
-    k < e.ports → (ports k).control.owned ≡ Some o → o.clean < e.ports → entering_mark ≤ slice_index words (at_word o.clean) →
-    (slice_index words (at_word o.clean) ≡ marked (ports o.clean).control.here)
+abbrev pub EnteringWordsAreLoaded : Type 0
+EnteringWordsAreLoaded = (e : Plan) (words : List ℕ) (ports : ℕ → Port) (b : Beside) (k : ℕ) (o : OwnedArena) → LawfulEpochs e words ports b →
+    k < e.ports → (ports k).control.owned ≡ Some o → o.clean < e.ports → entering_bit ≤ slice_index words (at_word o.clean) →
+    (slice_index words (at_word o.clean) ≡ entering_from (ports o.clean).control.here)
     × LawfulEpochs e words (put k (owning_port (ports k) (having_loaded o (ports o.clean).control.here)) ports) b
 
 -- an owner that loads another current word knows that its epoch has ended

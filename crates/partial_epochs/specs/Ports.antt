@@ -7,7 +7,7 @@ use Rattle.partial_epochs.specs.Layout.{Site}
 -- whether a port is entering: it stands, it has stored the entering word, or it has loaded the current site since
 pub data Entering : Type 0 where
   Stands : Entering
-  Marks : Entering
+  StoredEntering : Entering
   Loaded : Site → Entering
 
 -- an arena that a port owns
@@ -18,7 +18,7 @@ pub record OwnedArena : Type 0 where
   -- it is done with the ports below this one
   pub clean : ℕ
   -- the entering word of port `clean` that it has loaded, and whether it has seen since that its epoch is the current one
-  pub mark : Option Site
+  pub entering_word : Option Site
   pub again : Bool
   -- how many words it has set
   pub set : ℕ

@@ -44,7 +44,7 @@ ClearSlotsCountAsSet = (e : Plan) (words : List ℕ) (ports : ℕ → Port) (b :
 
 -- an arena that a port owns, as it was when the port took it
 abbrev pub resting_arena : OwnedArena → OwnedArena
-resting_arena o = record o { looked = false; clean = 0; mark = None; again = false; set = 0 }
+resting_arena o = record o { looked = false; clean = 0; entering_word = None; again = false; set = 0 }
 
 -- a port that has exchanged the current word: its epoch has passed, and it has yet to give back the arena
 abbrev pub having_published : Port → OwnedArena → Port

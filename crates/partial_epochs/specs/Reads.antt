@@ -24,8 +24,8 @@ read_stamp e words p j s =
     if nat_lt s (first_free e.sizes) then slice_index words (carried_word e p.control.here.arena j) else public_stamp p.control.here.epoch s
 
 -- what a read answers that saw n entries of its epoch is true of the history of all epochs, at the place after those entries
-abbrev pub ReadsTellAllEpochs : Type 0
-ReadsTellAllEpochs = (e : Plan) (words : List ℕ) (ports : ℕ → Port) (b : Beside) (k j n : ℕ) → LawfulEpochs e words ports b → k < e.ports →
+abbrev pub ReadsAnswerOverEpochs : Type 0
+ReadsAnswerOverEpochs = (e : Plan) (words : List ℕ) (ports : ℕ → Port) (b : Beside) (k j n : ℕ) → LawfulEpochs e words ports b → k < e.ports →
     (ports k).control.entering ≡ Stands → j < e.sizes.m → (s : IsStanding b k (ports k)) → n ≤ length s.epoch.log →
     IsTrueOf e.opening (history_of (s.epoch.log ∷ (ports k).before)) k (Call.Read j)
     (Answer.Read (value_of (opened_after e.opening (ports k).before) (take n s.epoch.log) j)
@@ -34,7 +34,7 @@ ReadsTellAllEpochs = (e : Plan) (words : List ℕ) (ports : ℕ → Port) (b : B
 
 -- what the words of the arena where a port stands say of component j, of an epoch with this history: its record is the last one, with the
 -- value and the public stamp that the component has in the one history
-pub record TellTheLast (e : Plan) (words : List ℕ) (p : Port) (log : List Applied) (j : ℕ) : Type 0 where
+pub record NameTheLast (e : Plan) (words : List ℕ) (p : Port) (log : List Applied) (j : ℕ) : Type 0 where
   pub stamp : unsealed (slice_index words (base e p.control.here.arena + j)) ≡ stamp_of (opened_after e.opening p.before) log j
   pub value : slice_index words (base e p.control.here.arena + value_word (unsealed (slice_index words (base e p.control.here.arena + j))))
       ≡ value_of e.opening (history_of (log ∷ p.before)) j
@@ -45,7 +45,7 @@ pub record TellTheLast (e : Plan) (words : List ℕ) (p : Port) (log : List Appl
 abbrev pub LastWordsAreFinal : Type 0
 LastWordsAreFinal = (e : Plan) (words : List ℕ) (ports : ℕ → Port) (b : Beside) (k j : ℕ) → LawfulEpochs e words ports b → k < e.ports →
     (ports k).control.entering ≡ Stands → j < e.sizes.m → (s : IsStanding b k (ports k)) →
-    TellTheLast e words (ports k) s.epoch.log j
+    NameTheLast e words (ports k) s.epoch.log j
     × ((q : ℕ) (c : CoreState) (step : Step) (lead : MachineLeads e words ports b q c step) →
     IsSealed (slice_index (component_words e words (ports q).control.here.arena) j) → (o : Opening) (log : List Applied) →
     (value_of o (log ++ lead.entries) j ≡ value_of o log j) × (stamp_of o (log ++ lead.entries) j ≡ stamp_of o log j))

@@ -4,9 +4,9 @@ use Rattle.partial_words.specs.Step.{words_after}
 use Rattle.partial_words.specs.declared.step.Step.{Step}
 use Rattle.partial_words.specs.declared.step.Step.TheVariants.{Store, Exchange}
 use Rattle.partial_epochs.specs.Lists.{put}
-use Rattle.partial_epochs.specs.Layout.{IsSite, Site, Plan, at_word, current_word, marked, own_word, packed, based_step, set_word}
+use Rattle.partial_epochs.specs.Layout.{IsSite, Site, Plan, at_word, current_word, entering_from, own_word, packed, based_step, set_word}
 use Rattle.partial_epochs.specs.Ports.{OwnedArena, Port}
-use Rattle.partial_epochs.specs.Ports.Entering.{Stands, Marks, Loaded}
+use Rattle.partial_epochs.specs.Ports.Entering.{Stands, StoredEntering, Loaded}
 use Rattle.partial_epochs.specs.Control.{MayPut}
 use Rattle.partial_epochs.specs.Epochs.{Beside, LawfulEpochs, site_now}
 use Rattle.partial_epochs.specs.Entering.{Arrives, arrived_port}
@@ -25,19 +25,19 @@ pub record KeepsTime (e : Plan) (words : List ℕ) (ports : ℕ → Port) (now :
   pub put : (k : ℕ) (c : Site) → k < e.ports → IsSite e c → slice_index words (at_word k) ≡ packed c → since k ≤ c.epoch
   -- nor that of a port that may put it
   pub may_put : (q k : ℕ) (a : Site) → q < e.ports → k < e.ports → MayPut (ports q).control k a →
-      slice_index words (at_word k) ≡ marked a → since k ≤ (ports q).control.here.epoch
+      slice_index words (at_word k) ≡ entering_from a → since k ≤ (ports q).control.here.epoch
 
 -- a memory as it opens keeps time
 abbrev pub OpeningsKeepTime : Type 0
 OpeningsKeepTime = (e : Plan) (words : List ℕ) → KeepsTime e words (first_ports e) first_site (λ _. 0)
 
 -- a port that stores its entering word enters from then on
-abbrev pub MarksKeepTime : Type 0
-MarksKeepTime = (e : Plan) (words : List ℕ) (ports : ℕ → Port) (b : Beside) (k : ℕ) (since : ℕ → ℕ) →
+abbrev pub EnteringWordsKeepTime : Type 0
+EnteringWordsKeepTime = (e : Plan) (words : List ℕ) (ports : ℕ → Port) (b : Beside) (k : ℕ) (since : ℕ → ℕ) →
     LawfulEpochs e words ports b → k < e.ports → (ports k).control.entering ≡ Stands → (ports k).control.owned ≡ None →
     KeepsTime e words ports (site_now b) since →
-    KeepsTime e (words_after words (Store (at_word k) (marked (ports k).control.here)))
-    (put k (record (ports k) { control = record (ports k).control { entering = Marks } }) ports)
+    KeepsTime e (words_after words (Store (at_word k) (entering_from (ports k).control.here)))
+    (put k (record (ports k) { control = record (ports k).control { entering = StoredEntering } }) ports)
     (site_now b) (put k (site_now b).epoch since)
 
 -- it loads the current site
@@ -53,7 +53,7 @@ ArrivalsKeepTime = (e : Plan) (words : List ℕ) (ports : ℕ → Port) (b : Bes
     LawfulEpochs e words ports b → k < e.ports → (ports k).control.entering ≡ Loaded c →
     KeepsTime e words ports (site_now b) since → (a : Arrives e words ports b k c) →
     (since k ≤ a.site.epoch)
-    × KeepsTime e (words_after words (Exchange (at_word k) (marked (ports k).control.here) (packed c)))
+    × KeepsTime e (words_after words (Exchange (at_word k) (entering_from (ports k).control.here) (packed c)))
     (put k (arrived_port e k a.site a.before) ports) (site_now b) since
 
 -- an owner looks and finds its own site the current one
@@ -64,16 +64,16 @@ LooksKeepTime = (e : Plan) (words : List ℕ) (ports : ℕ → Port) (b : Beside
     KeepsTime e words (put k (having_looked (ports k) o) ports) (site_now b) since
 
 -- an owner loads an entering word
-abbrev pub LoadedMarksKeepTime : Type 0
-LoadedMarksKeepTime = (e : Plan) (words : List ℕ) (ports : ℕ → Port) (now a : Site) (k : ℕ) (o : OwnedArena) (since : ℕ → ℕ) →
+abbrev pub LoadedEnteringWordsKeepTime : Type 0
+LoadedEnteringWordsKeepTime = (e : Plan) (words : List ℕ) (ports : ℕ → Port) (now a : Site) (k : ℕ) (o : OwnedArena) (since : ℕ → ℕ) →
     k < e.ports → KeepsTime e words ports now since → KeepsTime e words (put k (owning_port (ports k) (having_loaded o a)) ports) now since
 
 -- an owner puts a port where it stands itself
 abbrev pub PutsKeepTime : Type 0
 PutsKeepTime = (e : Plan) (words : List ℕ) (ports : ℕ → Port) (b : Beside) (k : ℕ) (o : OwnedArena) (a : Site) (since : ℕ → ℕ) →
-    LawfulEpochs e words ports b → k < e.ports → (ports k).control.owned ≡ Some o → o.clean < e.ports → o.mark ≡ Some a → o.again ≡ true →
-    slice_index words (at_word o.clean) ≡ marked a → KeepsTime e words ports (site_now b) since →
-    KeepsTime e (words_after words (Exchange (at_word o.clean) (marked a) (packed (ports k).control.here)))
+    LawfulEpochs e words ports b → k < e.ports → (ports k).control.owned ≡ Some o → o.clean < e.ports → o.entering_word ≡ Some a → o.again ≡ true →
+    slice_index words (at_word o.clean) ≡ entering_from a → KeepsTime e words ports (site_now b) since →
+    KeepsTime e (words_after words (Exchange (at_word o.clean) (entering_from a) (packed (ports k).control.here)))
     (put k (having_put (ports k) o) ports) (site_now b) since
 
 -- an owner exchanges the current word: the current epoch is then the same one, or a later one

@@ -4,15 +4,15 @@
 ghost use Rattle.partial_epochs.specs.History.{EpochsContinue};
 ghost use Rattle.partial_epochs.specs.MachineSteps.{UnsealedIsPresent, MachineStepsStayLawful, ClaimsHaveRoom, MachinesAreNeverSpent, MachinesAreNeverRefused};
 ghost use Rattle.partial_epochs.specs.Sealing.{SealsStayLawful, SealedPassesStayLawful};
-ghost use Rattle.partial_epochs.specs.Entering.{LooksAreTrue, MarksStayLawful, EntriesLoad, ArrivalsStayLawful};
-ghost use Rattle.partial_epochs.specs.Owning.{TakesStayLawful, GivesStayLawful, OwnersLook, OwnersLookAway, OthersAreElsewhere, MarksAreLoaded, PutsStayLawful};
+ghost use Rattle.partial_epochs.specs.Entering.{LooksAreTrue, EnteringWordsStayLawful, EntriesLoad, ArrivalsStayLawful};
+ghost use Rattle.partial_epochs.specs.Owning.{TakesStayLawful, GivesStayLawful, OwnersLook, OwnersLookAway, OthersAreElsewhere, EnteringWordsAreLoaded, PutsStayLawful};
 ghost use Rattle.partial_epochs.specs.Publishing.{ClearSlotsCountAsSet, SetsStayLawful, PublishesStayLawful};
 ghost use Rattle.partial_epochs.specs.Opening.{OpensOverLawful, EpochsOpenLawful};
 ghost use Rattle.partial_epochs.specs.Notes.{EpochsFitOneHistory, NotesStayLawful, SightsStayLawful, GlancesStayLawful, AsidesStayLawful, ArrivalsKeepNotes, PublishesKeepNotes, PublicStampsAreUnique};
-ghost use Rattle.partial_epochs.specs.Time.{OpeningsKeepTime, MarksKeepTime, EntriesKeepTime, ArrivalsKeepTime, LooksKeepTime, LoadedMarksKeepTime, PutsKeepTime, PublishesKeepTime, AsidesKeepTime, StepsKeepSites};
+ghost use Rattle.partial_epochs.specs.Time.{OpeningsKeepTime, EnteringWordsKeepTime, EntriesKeepTime, ArrivalsKeepTime, LooksKeepTime, LoadedEnteringWordsKeepTime, PutsKeepTime, PublishesKeepTime, AsidesKeepTime, StepsKeepSites};
 ghost use Rattle.partial_epochs.specs.EveryStep.{EveryStepStaysLawful, MemoriesOpenLawful};
 ghost use Rattle.partial_epochs.specs.FreeArenas.{EveryStepCounts, FewComeFree, MeetingsKeepTally, OpeningsKeepTally, OwnedArenasAreInUse, OwnSitesAreInUse, SomeArenaIsFree};
-ghost use Rattle.partial_epochs.specs.Reads.{ReadsTellAllEpochs, LastWordsAreFinal, ComponentsNameRecords, SeenRecordsStay};
+ghost use Rattle.partial_epochs.specs.Reads.{ReadsAnswerOverEpochs, LastWordsAreFinal, ComponentsNameRecords, SeenRecordsStay};
 ghost use Rattle.partial_epochs.specs.Collects.{CollectsStandTogether, EpochsAreHistories};
 
 /// A memory as it opens is lawful, with nothing applied, whatever stands in the arenas that hold no epoch.
@@ -67,8 +67,8 @@ pub fn looks_are_true()
 
 /// The first step of entering keeps the memory lawful: a port that knows that its epoch has ended stores its site with
 /// the entering bit.
-pub fn marks_stay_lawful()
-    ensures { MarksStayLawful }
+pub fn entering_words_stay_lawful()
+    ensures { EnteringWordsStayLawful }
 {}
 
 /// The second step of entering loads the current site, and keeps the memory lawful.
@@ -110,8 +110,8 @@ pub fn others_are_elsewhere()
 {}
 
 /// An owner that loads a port's word with the entering bit may hold that word. The memory stays lawful.
-pub fn marks_are_loaded()
-    ensures { MarksAreLoaded }
+pub fn entering_words_are_loaded()
+    ensures { EnteringWordsAreLoaded }
 {}
 
 /// An owner that holds the entering word of a port, and has since seen that its own epoch is the current one, may put
@@ -151,8 +151,8 @@ pub fn epochs_continue()
 {}
 
 /// What a read answers that saw some entries of its epoch is true of the one history, at the place after them.
-pub fn reads_tell_all_epochs()
-    ensures { ReadsTellAllEpochs }
+pub fn reads_answer_over_epochs()
+    ensures { ReadsAnswerOverEpochs }
 {}
 
 /// The histories of all epochs of a lawful memory, one after the other and with public stamps, are one history over the
@@ -239,8 +239,8 @@ pub fn openings_keep_time()
 
 /// The first step of entering keeps time: from then on the port enters no older epoch than the one that is the current
 /// one at that step. No other port may put it yet.
-pub fn marks_keep_time()
-    ensures { MarksKeepTime }
+pub fn entering_words_keep_time()
+    ensures { EnteringWordsKeepTime }
 {}
 
 /// The second step of entering, the load of the current site, keeps time.
@@ -260,8 +260,8 @@ pub fn looks_keep_time()
 {}
 
 /// An owner that loads an entering word keeps time: it may not put that port before it has looked again.
-pub fn loaded_marks_keep_time()
-    ensures { LoadedMarksKeepTime }
+pub fn loaded_entering_words_keep_time()
+    ensures { LoadedEnteringWordsKeepTime }
 {}
 
 /// An owner that puts an entering port where it stands itself keeps time.

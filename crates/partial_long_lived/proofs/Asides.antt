@@ -31,7 +31,7 @@ pub aside : (a : About) (words words' : List ℕ) (ports : ℕ → Port) (notes 
     LawfulMemory (plan_of a) words' (put x.number (g (ports x.number)) ports) c notes → (m : Contention) → m.seals ≡ x.contention.seals →
     IsSearching (plan_of a) words' (put x.number (g (ports x.number)) ports) (site_now c) reckoned' x.number m.search → (m.search.met ≡ true → reckoned'.tally.met x.number ≡ true) →
     (P : SeatedPort → Type 0) → P (record (becomes x n (g x.port)) { contention = m }) → Moved a words words' ports notes b reckoned x P
-aside a words words' ports notes b c reckoned reckoned' x w s known g q n marked began time log before then m seals search met P says =
+aside a words words' ports notes b c reckoned reckoned' x w s known g q n entering_from began time log before then m seals search met P says =
     let k : ℕ = x.number in
     let p : Port = ports k in
     let own : x.about ≡ a = s.about in
@@ -57,7 +57,7 @@ aside a words words' ports notes b c reckoned reckoned' x w s known g q n marked
         port = ap g s.port ∙ sym (put_same k (g p) ports);
         noted = s.noted;
         began = began;
-        entering = marked;
+        entering = entering_from;
         seen = seen_grows (g x.port) b c grown (seen_same b g x.port q s.seen);
         found = final_grows a (g x.port) b c grown x.found (final_same a b g x.port q x.found s.found);
         search = search;

@@ -1,5 +1,5 @@
 -- The steps of a change of epoch, as its code asks for them.
-use Rattle.partial_long_lived.proofs.{Common.{ℕ, ◌≡◌, ◌≢◌, ◌+◌, ◌-◌, ◌*◌, ◌%◌, ◌^◌, ◌<◌, ◌≤◌, ◌==◌, Bool, if◌then◌else◌, Option, Some, IfSome, List, [], sym, ap, subst, ◌∙◌, inl, inr, arith, lt-ltb, either, Me, Allows, TableId, first_free, list_base, opening_word, Site, Plan, arena_limit, at_word, base, entering_mark, marked, own_word, packed, seal, set_word, OwnedArena, Port, Stands, next_site, passing_port, below_whole, set_index, About, Stand, IsRuleKept, SeatedPort, one_of, plan_of, bare, shape_plan, SeatGoes, IsOne, tells, IsHeld, port_at, SeatGives, LoadsPort, PassesSealed, SeatPublishes, PutsPort, Seals, Sets, Takes, passed_at, unpacked, IsIdle, IsCarriedStamp, IsRight, IsFixedWord, MayPutPort, OfOwned, Owns, PutsBy, SetsLists, SetsNext, TakesBy, HasSetWords, initial_words, slot_counter, FindsClear, after_value, after_values, value_word, initial_record, SetsValue, FoundValue, Searches, GivesBack, HasPassedArenas, BeginsSearch, BeginsPass, None, true, false, ◌⊎◌}, Changes.{may_give, may_load_port, may_pass, may_put, may_seal, may_take}, Sets.{may_find_clear, may_set_over_lists, may_set_same, may_set_stamp, may_set_value, value_at}, Publishes.may_publish, Standing.{base_is, site_is}, Searching.{may_begin_pass, may_begin_search}}
+use Rattle.partial_long_lived.proofs.{Common.{ℕ, ◌≡◌, ◌≢◌, ◌+◌, ◌-◌, ◌*◌, ◌%◌, ◌^◌, ◌<◌, ◌≤◌, ◌==◌, Bool, if◌then◌else◌, Option, Some, IfSome, List, [], sym, ap, subst, ◌∙◌, inl, inr, arith, lt-ltb, either, Me, Allows, TableId, first_free, list_base, opening_word, Site, Plan, arena_limit, at_word, base, entering_bit, entering_from, own_word, packed, seal, set_word, OwnedArena, Port, Stands, next_site, passing_port, below_whole, set_index, About, Stand, IsRuleKept, SeatedPort, one_of, plan_of, bare, shape_plan, SeatGoes, IsOne, tells, IsHeld, port_at, SeatGives, LoadsPort, PassesSealed, SeatPublishes, PutsPort, Seals, Sets, Takes, passed_at, unpacked, IsIdle, IsCarriedStamp, IsRight, IsFixedWord, MayPutPort, OfOwned, Owns, PutsBy, SetsLists, SetsNext, TakesBy, HasSetWords, initial_words, slot_counter, FindsClear, after_value, after_values, value_word, initial_record, SetsValue, FoundValue, Searches, GivesBack, HasPassedArenas, BeginsSearch, BeginsPass, None, true, false, ◌⊎◌}, Changes.{may_give, may_load_port, may_pass, may_put, may_seal, may_take}, Sets.{may_find_clear, may_set_over_lists, may_set_same, may_set_stamp, may_set_value, value_at}, Publishes.may_publish, Standing.{base_is, site_is}, Searching.{may_begin_pass, may_begin_search}}
 use Rattle.partial_long_lived.proofs.Control as Control
 
 -- a step by the arena that the port owns
@@ -17,7 +17,7 @@ passed_not a p low = ap (λ (c : Bool). if c then p else passing_port p) (lt-ltb
 -- a port that owns no arena may look
 idle_looks : (about : About) (s : Stand) → IsIdle s → Control.MayLook about (port_at s).port
 idle_looks about s free =
-    (free.stands, subst (λ (t : Option OwnedArena). IfSome t (λ o. (o.mark ≡ None) ⊎ (o.clean < about.ports))) (sym free.free) tt)
+    (free.stands, subst (λ (t : Option OwnedArena). IfSome t (λ o. (o.entering_word ≡ None) ⊎ (o.clean < about.ports))) (sym free.free) tt)
 
 module _ (table : TableId) (about : About) (s : Stand) (h : IsHeld table about s) where
   abbrev x : SeatedPort
@@ -109,19 +109,19 @@ module _ (table : TableId) (about : About) (s : Stand) (h : IsHeld table about s
       (subst (λ i. Allows (IsRuleKept about) slots id s.seat.me i (λ n. n) (tells (LoadsPort o) s.seat.me)) (ap at_word works.clean)
       (may_load_port about slots id s.seat.me h.one h.own h.known o works.is works.looked works.set (subst (λ n. n < about.ports) (sym works.clean) low)))
 
-  pub put_asked : (y q a : ℕ) → MayPutPort s y q a → entering_mark ≤ a → q < about.ports → (slots id v : ℕ) → v ≡ packed (record { epoch = s.epoch; arena = s.arena }) →
+  pub put_asked : (y q a : ℕ) → MayPutPort s y q a → entering_bit ≤ a → q < about.ports → (slots id v : ℕ) → v ≡ packed (record { epoch = s.epoch; arena = s.arena }) →
       Allows (IsRuleKept about) slots id s.seat.me (1 + q) (λ n. either (n == a) v n) (tells (PutsBy a) s.seat.me)
   put_asked y q a may from low slots id v here =
       let holds = may.holds in
       let o = holds.owned in
-      let m : Site = unpacked (a - entering_mark) in
-      let named : marked m ≡ a = omega (arith, from) in
-      let put : ℕ → OwnedArena → SeatedPort → ℕ → SeatedPort → Type 0 = λ w o. PutsPort o (unpacked (w - entering_mark)) in
+      let m : Site = unpacked (a - entering_bit) in
+      let named : entering_from m ≡ a = omega (arith, from) in
+      let put : ℕ → OwnedArena → SeatedPort → ℕ → SeatedPort → Type 0 = λ w o. PutsPort o (unpacked (w - entering_bit)) in
       of_owned about slots id (1 + q) (λ n. either (n == a) v n) s.seat.me (λ o. PutsPort o m) o holds.is
       (subst (λ i. Allows (IsRuleKept about) slots id s.seat.me i (λ n. either (n == a) v n) (tells (PutsPort o m) s.seat.me)) (ap at_word holds.clean)
       (subst (λ t. Allows (IsRuleKept about) slots id s.seat.me (at_word o.clean) (λ n. either (n == t) v n) (tells (PutsPort o m) s.seat.me)) named
-      (subst (λ v. Allows (IsRuleKept about) slots id s.seat.me (at_word o.clean) (λ n. either (n == marked m) v n) (tells (PutsPort o m) s.seat.me)) (sym (here ∙ site_is table about s h))
-      (may_put about slots id s.seat.me h.one h.own h.known o m holds.is holds.looked holds.set (subst (λ n. n < about.ports) (sym holds.clean) low) holds.mark may.again))))
+      (subst (λ v. Allows (IsRuleKept about) slots id s.seat.me (at_word o.clean) (λ n. either (n == entering_from m) v n) (tells (PutsPort o m) s.seat.me)) (sym (here ∙ site_is table about s h))
+      (may_put about slots id s.seat.me h.one h.own h.known o m holds.is holds.looked holds.set (subst (λ n. n < about.ports) (sym holds.clean) low) holds.entering_word may.again))))
 
   -- the words of the owned arena
   set_is : (y i w : ℕ) → w ≡ set_word (shape_plan s.shape bare) y i → w ≡ set_word e y i

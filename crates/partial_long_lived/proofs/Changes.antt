@@ -1,5 +1,5 @@
 -- The steps of a change of epoch are allowed.
-use Rattle.partial_long_lived.proofs.{Common.{ℕ, control_size, ◌≡◌, ◌≢◌, ◌+◌, ◌-◌, ◌%◌, ◌^◌, ◌<◌, ◌≤◌, ◌==◌, ◌⊎◌, Bool, true, false, if◌then◌else◌, Option, Some, None, List, slice_index, slice_set, refl, sym, ap, subst, ◌∙◌, inl, inr, arith, nat_lt, cases_lt, lt-ltb, eqb_tells, either, Me, Allows, IsSite, Site, Plan, at_word, base, component_words, control_words, entering_mark, marked, own_word, packed, seal, Entering, OwnedArena, Port, Stands, Marks, Loaded, IsSiteWord, Beside, LawfulEpochs, site_now, Reckons, Reckoning, passing_port, at_next_port, having_given, having_loaded, just_taken, owning_port, at_of, not_below, About, Began, IsRuleKept, IsSince, SeatedPort, one_of, plan_of, IsSeatKnown, IsOne, tells, SeatGives, LoadsPort, PassesSealed, PutsPort, contention_loading, contention_putting, contention_taking, Seals, Takes, elsewhere, passed_at, port_loaded, port_put, taken_at, unpacked, MayMove, LawfulMemory, Noted, unpacked_is, Contention, IsSearching, HasSeenArrival, IsNamed, IsInUse, MayCount, arena_limit, put_same, HasPassedArenas, contention_there, contention_giving, meeting, passing, owned_arenas_are_in_use, IfSome, controls, numbers}, Asides.IsQuiet, Control.{OwnSearch, QuietlyBy, Still, load_same, quietly, quietly_searching, by_count, by_move, by_rest}, Contention.{giving_seals, loading_seals, putting_seals, taking_seals}, Searching.{leaves_search, meets_another, passes_to}}
+use Rattle.partial_long_lived.proofs.{Common.{ℕ, control_size, ◌≡◌, ◌≢◌, ◌+◌, ◌-◌, ◌%◌, ◌^◌, ◌<◌, ◌≤◌, ◌==◌, ◌⊎◌, Bool, true, false, if◌then◌else◌, Option, Some, None, List, slice_index, slice_set, refl, sym, ap, subst, ◌∙◌, inl, inr, arith, nat_lt, cases_lt, lt-ltb, eqb_tells, either, Me, Allows, IsSite, Site, Plan, at_word, base, component_words, control_words, entering_bit, entering_from, own_word, packed, seal, Entering, OwnedArena, Port, Stands, StoredEntering, Loaded, IsSiteWord, Beside, LawfulEpochs, site_now, Reckons, Reckoning, passing_port, at_next_port, having_given, having_loaded, just_taken, owning_port, at_of, not_below, About, Began, IsRuleKept, IsSince, SeatedPort, one_of, plan_of, IsSeatKnown, IsOne, tells, SeatGives, LoadsPort, PassesSealed, PutsPort, contention_loading, contention_putting, contention_taking, Seals, Takes, elsewhere, passed_at, port_loaded, port_put, taken_at, unpacked, MayMove, LawfulMemory, Noted, unpacked_is, Contention, IsSearching, HasSeenArrival, IsNamed, IsInUse, MayCount, arena_limit, put_same, HasPassedArenas, contention_there, contention_giving, meeting, passing, owned_arenas_are_in_use, IfSome, controls, numbers}, Asides.IsQuiet, Control.{OwnSearch, QuietlyBy, Still, load_same, quietly, quietly_searching, by_count, by_move, by_rest}, Contention.{giving_seals, loading_seals, putting_seals, taking_seals}, Searching.{leaves_search, meets_another, passes_to}}
 use Rattle.partial_epochs.specs.EveryStep.{Move as move}
 use Rattle.partial_epochs.specs.Control.{IsOwner}
 
@@ -61,8 +61,8 @@ module _ (e : Plan) (words : List ℕ) (ports : ℕ → Port) (b : Beside) (w : 
   word_is : slice_index (control_words e words) (at_word q) ≡ slice_index words (at_word q)
   word_is = at_of (λ i. slice_index words i) 0 (control_size e) (at_word q) (omega (arith, low)) ∙ ap (λ i. slice_index words i) (omega arith)
 
-  pub unmarked_site : slice_index words (at_word q) < entering_mark → (slice_index words (at_word q) ≡ packed (unpacked (slice_index words (at_word q)))) × IsSite e (unpacked (slice_index words (at_word q)))
-  unmarked_site less = by (ports q).control.entering (w.control.at q low)
+  pub unentering_site : slice_index words (at_word q) < entering_bit → (slice_index words (at_word q) ≡ packed (unpacked (slice_index words (at_word q)))) × IsSite e (unpacked (slice_index words (at_word q)))
+  unentering_site less = by (ports q).control.entering (w.control.at q low)
     where
       named : (c : Site) → IsSite e c → slice_index words (at_word q) ≡ packed c →
           (slice_index words (at_word q) ≡ packed (unpacked (slice_index words (at_word q)))) × IsSite e (unpacked (slice_index words (at_word q)))
@@ -70,7 +70,7 @@ module _ (e : Plan) (words : List ℕ) (ports : ℕ → Port) (b : Beside) (w : 
           let same : unpacked (slice_index words (at_word q)) ≡ c = ap unpacked at ∙ unpacked_is c w.plan.arenas site.arena in
           (at ∙ ap packed (sym same), subst (IsSite e) (sym same) site)
 
-      entering : (slice_index (control_words e words) (at_word q) ≡ marked (ports q).control.here) ⊎
+      entering : (slice_index (control_words e words) (at_word q) ≡ entering_from (ports q).control.here) ⊎
           ((c : Site) × IsSite e c × (slice_index (control_words e words) (at_word q) ≡ packed c) × ((ports q).control.here.epoch < c.epoch)) →
           (slice_index words (at_word q) ≡ packed (unpacked (slice_index words (at_word q)))) × IsSite e (unpacked (slice_index words (at_word q)))
       entering (inl at) = let is = word_is in absurd (omega (arith, at, is, less))
@@ -79,7 +79,7 @@ module _ (e : Plan) (words : List ℕ) (ports : ℕ → Port) (b : Beside) (w : 
       by : (t : Entering) → IsSiteWord e (control_words e words) q (ports q).control.here t →
           (slice_index words (at_word q) ≡ packed (unpacked (slice_index words (at_word q)))) × IsSite e (unpacked (slice_index words (at_word q)))
       by Stands at = named (ports q).control.here (w.control.sites q low) (sym word_is ∙ at)
-      by Marks at = entering at
+      by StoredEntering at = entering at
       by (Loaded c) at = entering at
 
 -- what becomes of an owner that looks for the next port
@@ -101,12 +101,12 @@ module _ (a : About) (words : List ℕ) (ports : ℕ → Port) (notes : ℕ → 
       (inl (subst (λ (l : List ℕ). IsNamed (plan_of a) l o.arena) same (record { port = o.clean; inside = more; names = there })))
 
   -- it finds another word than the entering word that it holds
-  pub finds_another : (m : Site) → o.mark ≡ Some m → slice_index words (at_word o.clean) ≢ marked m → (words' : List ℕ) → words ≡ words' → Owns words' o (meeting u)
-  finds_another m mark other words' same =
+  pub finds_another : (m : Site) → o.entering_word ≡ Some m → slice_index words (at_word o.clean) ≢ entering_from m → (words' : List ℕ) → words ≡ words' → Owns words' o (meeting u)
+  finds_another m entering_word other words' same =
       let to = (still_owns words' same).to in
-      let held = (((to.time).reckons).tally).marks k below in
-      let arrived = subst (λ (t : Option Site). IfSome t (λ m. (slice_index words' (at_word o.clean) ≡ marked m) ⊎ HasSeenArrival (to.reckoned').tally k)) mark
-      (subst (λ (t : Option OwnedArena). IfSome t (λ o. IfSome o.mark (λ m. (slice_index words' (at_word o.clean) ≡ marked m) ⊎ HasSeenArrival (to.reckoned').tally k)))
+      let held = (((to.time).reckons).tally).entering_words k below in
+      let arrived = subst (λ (t : Option Site). IfSome t (λ m. (slice_index words' (at_word o.clean) ≡ entering_from m) ⊎ HasSeenArrival (to.reckoned').tally k)) entering_word
+      (subst (λ (t : Option OwnedArena). IfSome t (λ o. IfSome o.entering_word (λ m. (slice_index words' (at_word o.clean) ≡ entering_from m) ⊎ HasSeenArrival (to.reckoned').tally k)))
       (ap (λ (q : Port). q.control.owned) (put_same k (owning_port (ports k) o) ports)) held) in
       meets_another a words words' ports notes b reckoned k below g (owning_port (ports k) o) u search to o refl looked
       (inr (elim arrived [
@@ -114,11 +114,11 @@ module _ (a : About) (words : List ℕ) (ports : ℕ → Port) (notes : ℕ → 
         | inr seen ↦ seen
       ]))
 
-  pub finds_elsewhere : (words' : List ℕ) → words ≡ words' → slice_index words (at_word o.clean) < entering_mark →
+  pub finds_elsewhere : (words' : List ℕ) → words ≡ words' → slice_index words (at_word o.clean) < entering_bit →
       Owns words' (elsewhere (slice_index words (at_word o.clean)) o) (contention_there (slice_index words (at_word o.clean)) o u)
   finds_elsewhere words' same less =
       let n : ℕ = slice_index words (at_word o.clean) in
-      let there = unmarked_site (plan_of a) words ports b w.epochs o.clean more less in
+      let there = unentering_site (plan_of a) words ports b w.epochs o.clean more less in
       let P : Bool → Type 0 = λ t. Owns words' (if t then o else at_next_port o) (if t then meeting u else u) in
       (elim (eqb_tells (unpacked n).arena o.arena) [
         | inl is ↦ subst P (sym is.0) (finds_there words' same is.1)
@@ -248,22 +248,22 @@ module _ {S : Type 0} (a : About) (slots id : ℕ) (me : Me S (List SeatedPort))
       let words' : List ℕ = slice_set words (at_word o.clean) n in
       let owned' : (ports k).control.owned ≡ Some o = ap (λ (p : Port). p.control.owned) (sym s.port) ∙ owned in
       let old = subst (λ (p : Port). IsSince x.began p.control.entering (reckoned.since k)) s.port s.entering in
-      let P : Bool → Type 0 = λ t. OwnSearch a words words' ports notes b reckoned k x.began (owning_port (ports k) (if t then elsewhere n o else having_loaded o (unpacked (n - entering_mark))))
+      let P : Bool → Type 0 = λ t. OwnSearch a words words' ports notes b reckoned k x.began (owning_port (ports k) (if t then elsewhere n o else having_loaded o (unpacked (n - entering_bit))))
       (if t then contention_there n o x.contention else x.contention) in
-      (elim (cases_lt n entering_mark) [
-        | inl less ↦ subst P (sym (lt-ltb n entering_mark less))
+      (elim (cases_lt n entering_bit) [
+        | inl less ↦ subst P (sym (lt-ltb n entering_bit less))
             (finds_elsewhere a words ports notes b reckoned w time k s.number x.began old o owned' looked none more x.contention s.search s.met words' (load_same words (at_word o.clean)) less)
-        | inr from ↦ subst P (sym (not_below n entering_mark from))
-            (leaves_search a words words' ports notes b reckoned k s.number x.began (owning_port (ports k) (having_loaded o (unpacked (n - entering_mark)))) x.contention s.search
-            (by_move a words ports notes b reckoned w time k s.number x.began (move.LoadsMark o) (owned', more, from) tt refl (λ p c n is. is) (λ q ne. refl) words' (load_same words (at_word o.clean))
-            (owning_port (ports k) (having_loaded o (unpacked (n - entering_mark)))) refl old) s.met)
+        | inr from ↦ subst P (sym (not_below n entering_bit from))
+            (leaves_search a words words' ports notes b reckoned k s.number x.began (owning_port (ports k) (having_loaded o (unpacked (n - entering_bit)))) x.contention s.search
+            (by_move a words ports notes b reckoned w time k s.number x.began (move.LoadsEnteringWord o) (owned', more, from) tt refl (λ p c n is. is) (λ q ne. refl) words' (load_same words (at_word o.clean))
+            (owning_port (ports k) (having_loaded o (unpacked (n - entering_bit)))) refl old) s.met)
       ]))
       (λ n. refl)
 
   -- the exchange of its entering word
-  pub may_put : (o : OwnedArena) (m : Site) → x.port.control.owned ≡ Some o → o.looked ≡ true → o.set ≡ 0 → o.clean < a.ports → o.mark ≡ Some m → o.again ≡ true →
-      Allows (IsRuleKept a) slots id me (at_word o.clean) (λ n. either (n == marked m) (packed x.port.control.here) n) (tells (PutsPort o m) me)
-  may_put o m owned looked none more mark again = quietly_searching a slots id me one own known (at_word o.clean) (λ n. either (n == marked m) (packed x.port.control.here) n)
+  pub may_put : (o : OwnedArena) (m : Site) → x.port.control.owned ≡ Some o → o.looked ≡ true → o.set ≡ 0 → o.clean < a.ports → o.entering_word ≡ Some m → o.again ≡ true →
+      Allows (IsRuleKept a) slots id me (at_word o.clean) (λ n. either (n == entering_from m) (packed x.port.control.here) n) (tells (PutsPort o m) me)
+  may_put o m owned looked none more entering_word again = quietly_searching a slots id me one own known (at_word o.clean) (λ n. either (n == entering_from m) (packed x.port.control.here) n)
       (λ n p. owning_port p (port_put m n o)) (λ n w. contention_putting m n o w)
       (PutsPort o m)
       (λ n. owned_quiet (λ p. port_put m n o)) (λ n w. putting_seals m n o w)
@@ -272,30 +272,30 @@ module _ {S : Type 0} (a : About) (slots id : ℕ) (me : Me S (List SeatedPort))
       let i : ℕ = at_word o.clean in
       let n : ℕ = slice_index words i in
       let there : ℕ = packed x.port.control.here in
-      let v : ℕ = either (n == marked m) there n in
+      let v : ℕ = either (n == entering_from m) there n in
       let words' : List ℕ = slice_set words i v in
       let u : Contention = x.contention in
       let owned' : (ports k).control.owned ≡ Some o = ap (λ (p : Port). p.control.owned) (sym s.port) ∙ owned in
       let old = subst (λ (p : Port). IsSince x.began p.control.entering (reckoned.since k)) s.port s.entering in
       let Q : OwnedArena → Contention → Type 0 = λ p m. OwnSearch a words words' ports notes b reckoned k x.began (owning_port (ports k) p) m in
-      let P : Bool → Type 0 = λ t. Q (if t then at_next_port o else (if nat_lt n entering_mark then elsewhere n o else o)) (if t then u else (if nat_lt n entering_mark then contention_there n o u else meeting u)) in
-      (elim (eqb_tells n (marked m)) [
+      let P : Bool → Type 0 = λ t. Q (if t then at_next_port o else (if nat_lt n entering_bit then elsewhere n o else o)) (if t then u else (if nat_lt n entering_bit then contention_there n o u else meeting u)) in
+      (elim (eqb_tells n (entering_from m)) [
         | inl won ↦
-            let word : (if n == marked m then packed (ports k).control.here else n) ≡ v = ap (λ (p : Port). if n == marked m then packed p.control.here else n) (sym s.port)
-            ∙ either_cond (n == marked m) there n in
+            let word : (if n == entering_from m then packed (ports k).control.here else n) ≡ v = ap (λ (p : Port). if n == entering_from m then packed p.control.here else n) (sym s.port)
+            ∙ either_cond (n == entering_from m) there n in
             subst P (sym won.0)
             (leaves_search a words words' ports notes b reckoned k s.number x.began (owning_port (ports k) (at_next_port o)) u s.search
-            (by_move a words ports notes b reckoned w time k s.number x.began (move.Puts o m) (owned', looked, more, none, mark, again, won.1) tt refl (λ p c n is. is) (λ q ne. refl) words'
+            (by_move a words ports notes b reckoned w time k s.number x.began (move.Puts o m) (owned', looked, more, none, entering_word, again, won.1) tt refl (λ p c n is. is) (λ q ne. refl) words'
             (ap (λ v. slice_set words i v) word) (owning_port (ports k) (at_next_port o)) refl old) s.met)
         | inr lost ↦
             let R : Bool → Type 0 = λ t. Q (if t then elsewhere n o else o) (if t then contention_there n o u else meeting u) in
             let same : words ≡ words' = load_same words i ∙ ap (λ t. slice_set words i (either t there n)) (sym lost.0) in
-            let stays : R (nat_lt n entering_mark) =
-            (elim (cases_lt n entering_mark) [
-              | inl less ↦ subst R (sym (lt-ltb n entering_mark less))
+            let stays : R (nat_lt n entering_bit) =
+            (elim (cases_lt n entering_bit) [
+              | inl less ↦ subst R (sym (lt-ltb n entering_bit less))
                   (finds_elsewhere a words ports notes b reckoned w time k s.number x.began old o owned' looked none more u s.search s.met words' same less)
-              | inr from ↦ subst R (sym (not_below n entering_mark from))
-                  (finds_another a words ports notes b reckoned w time k s.number x.began old o owned' looked none more u s.search s.met m mark lost.1 words' same)
+              | inr from ↦ subst R (sym (not_below n entering_bit from))
+                  (finds_another a words ports notes b reckoned w time k s.number x.began old o owned' looked none more u s.search s.met m entering_word lost.1 words' same)
             ]) in
             subst P (sym lost.0) stays
       ]))

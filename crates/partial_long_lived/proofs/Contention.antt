@@ -1,5 +1,5 @@
 -- What a port has met never shrinks, and how the search of each port goes on.
-use Rattle.partial_long_lived.proofs.{Common.{ℕ, ◌≡◌, ◌+◌, ◌<◌, ◌≤◌, ◌==◌, nat_lt, Bool, true, false, if◌then◌else◌, List, refl, arith, seal, entering_mark, OwnedArena, Site, Port, Contention, Search, Reckoning, IsSearching, passing, meeting, contention_giving, contention_taking, contention_there, contention_loading, contention_putting, marked, unpacked, Wish, Glances, Reads, Expects, Finds, contention_by, Plan, Counts, Move}}
+use Rattle.partial_long_lived.proofs.{Common.{ℕ, ◌≡◌, ◌+◌, ◌<◌, ◌≤◌, ◌==◌, nat_lt, Bool, true, false, if◌then◌else◌, List, refl, arith, seal, entering_bit, OwnedArena, Site, Port, Contention, Search, Reckoning, IsSearching, passing, meeting, contention_giving, contention_taking, contention_there, contention_loading, contention_putting, entering_from, unpacked, Wish, Glances, Reads, Expects, Finds, contention_by, Plan, Counts, Move}}
 
 either_seals : (c : Bool) (m x y : Contention) → x.seals ≡ m.seals → y.seals ≡ m.seals → (if c then x else y).seals ≡ m.seals
 either_seals true m x y p q = p
@@ -16,11 +16,11 @@ there_seals : (a : ℕ) (o : OwnedArena) (m : Contention) → (contention_there 
 there_seals a o m = either_seals ((unpacked a).arena == o.arena) m (meeting m) m refl refl
 
 pub loading_seals : (a : ℕ) (o : OwnedArena) (m : Contention) → (contention_loading a o m).seals ≡ m.seals
-loading_seals a o m = either_seals (nat_lt a entering_mark) m (contention_there a o m) m (there_seals a o m) refl
+loading_seals a o m = either_seals (nat_lt a entering_bit) m (contention_there a o m) m (there_seals a o m) refl
 
 pub putting_seals : (d : Site) (a : ℕ) (o : OwnedArena) (m : Contention) → (contention_putting d a o m).seals ≡ m.seals
-putting_seals d a o m = either_seals (a == marked d) m m (if nat_lt a entering_mark then contention_there a o m else meeting m) refl
-    (either_seals (nat_lt a entering_mark) m (contention_there a o m) (meeting m) (there_seals a o m) refl)
+putting_seals d a o m = either_seals (a == entering_from d) m m (if nat_lt a entering_bit then contention_there a o m else meeting m) refl
+    (either_seals (nat_lt a entering_bit) m (contention_there a o m) (meeting m) (there_seals a o m) refl)
 
 either_more : (c : Bool) (m x y : Contention) → m.seals ≤ x.seals → m.seals ≤ y.seals → m.seals ≤ (if c then x else y).seals
 either_more true m x y p q = p

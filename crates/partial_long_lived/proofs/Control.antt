@@ -1,5 +1,5 @@
 -- The steps of a change of epoch and of entering one are allowed.
-use Rattle.partial_long_lived.proofs.{Common.{ℕ, ◌≡◌, ◌≢◌, ◌<◌, ◌≤◌, ◌==◌, ◌⊎◌, Bool, true, false, if◌then◌else◌, Option, Some, None, IfSome, List, length, slice_index, slice_set, refl, sym, ap, subst, ◌∙◌, arith, set-get_or, Me, Allows, Applied, Noted, put, IsSite, Site, Plan, at_word, current_word, marked, packed, Entering, OwnedArena, Port, Stands, Marks, Beside, LawfulEpochs, site_now, having_passed, having_looked, LawfulMemory, put_all, put_same, put_other, option_map_or, Reckons, Reckoning, entries_load, About, Began, IsRuleKept, IsSince, SeatedPort, one_of, plan_of, IsSeatKnown, IsOne, tells, LoadsCurrent, SeatLooks, StoresMark, becomes, loads, looked_at, marks, unpacked, Contention, [], ◌++◌, append-nil, MayMove, Move, MoveLeads, Becomes, port_after, since_after, moved_words, every_step_stays_lawful, IsAside, noting, IsSeat, BeganInTime, unpacked_is, IsSearching, Tally, Counts, LeavesInUse, MayCount, met_after, every_step_counts}, Asides.{IsQuiet, aside}, Contention.searching_on, Kept.{GoesOn, allowed, begun_grows, none_grown, Moved}, Begins.{began_by, here_is, seen_few}}
+use Rattle.partial_long_lived.proofs.{Common.{ℕ, ◌≡◌, ◌≢◌, ◌<◌, ◌≤◌, ◌==◌, ◌⊎◌, Bool, true, false, if◌then◌else◌, Option, Some, None, IfSome, List, length, slice_index, slice_set, refl, sym, ap, subst, ◌∙◌, arith, set-get_or, Me, Allows, Applied, Noted, put, IsSite, Site, Plan, at_word, current_word, entering_from, packed, Entering, OwnedArena, Port, Stands, StoredEntering, Beside, LawfulEpochs, site_now, having_passed, having_looked, LawfulMemory, put_all, put_same, put_other, option_map_or, Reckons, Reckoning, entries_load, About, Began, IsRuleKept, IsSince, SeatedPort, one_of, plan_of, IsSeatKnown, IsOne, tells, LoadsCurrent, SeatLooks, StoresEnteringWord, becomes, loads, looked_at, stored_entering, unpacked, Contention, [], ◌++◌, append-nil, MayMove, Move, MoveLeads, Becomes, port_after, since_after, moved_words, every_step_stays_lawful, IsAside, noting, IsSeat, BeganInTime, unpacked_is, IsSearching, Tally, Counts, LeavesInUse, MayCount, met_after, every_step_counts}, Asides.{IsQuiet, aside}, Contention.searching_on, Kept.{GoesOn, allowed, begun_grows, none_grown, Moved}, Begins.{began_by, here_is, seen_few}}
 use Rattle.partial_epochs.specs.EveryStep.{Move as move}
 
 -- a load leaves the words as they are
@@ -39,7 +39,7 @@ looked_quiet a = record {
 
 -- a port may look that owns no arena, or that owns one and has either no entering word or ports left to find
 abbrev pub MayLook : About → Port → Type 0
-MayLook a p = (p.control.entering ≡ Stands) × IfSome p.control.owned (λ o. (o.mark ≡ None) ⊎ (o.clean < a.ports))
+MayLook a p = (p.control.entering ≡ Stands) × IfSome p.control.owned (λ o. (o.entering_word ≡ None) ⊎ (o.clean < a.ports))
 
 pub looked_stands : (n : ℕ) (p : Port) → p.control.entering ≡ Stands → (looked_at n p).control.entering ≡ Stands
 looked_stands n p is = by (n == packed p.control.here) p.control.owned
@@ -62,12 +62,12 @@ met_others k move.Seals met q ne = refl
 met_others k move.PassesSealed met q ne = refl
 met_others k move.Looks met q ne = refl
 met_others k (move.LooksAsOwner o) met q ne = refl
-met_others k move.StoresMark met q ne = refl
+met_others k move.StoresEnteringWord met q ne = refl
 met_others k move.LoadsCurrent met q ne = refl
-met_others k (move.ExchangesMark c) met q ne = refl
+met_others k (move.ExchangesEnteringWord c) met q ne = refl
 met_others k (move.Gives o) met q ne = refl
 met_others k (move.FindsElsewhere o d) met q ne = refl
-met_others k (move.LoadsMark o) met q ne = refl
+met_others k (move.LoadsEnteringWord o) met q ne = refl
 met_others k (move.Puts o a) met q ne = refl
 met_others k (move.Sets o v next) met q ne = refl
 met_others k (move.FindsClear o next) met q ne = refl
@@ -216,10 +216,10 @@ module _ (a : About) (words : List ℕ) (ports : ℕ → Port) (notes : ℕ → 
         entering : IsSince g (looked_at at (ports k)).control.entering (reckoned.since k)
         entering = subst (λ (t : Entering). IsSince g t (reckoned.since k)) (sym (looked_stands at (ports k) may.0)) since_then
 
-        by : (o : Option OwnedArena) → (ports k).control.owned ≡ o → IfSome o (λ o. (o.mark ≡ None) ⊎ (o.clean < a.ports)) → Still a words words ports notes b reckoned k g (looked_at at (ports k))
+        by : (o : Option OwnedArena) → (ports k).control.owned ≡ o → IfSome o (λ o. (o.entering_word ≡ None) ⊎ (o.clean < a.ports)) → Still a words words ports notes b reckoned k g (looked_at at (ports k))
         by None none tt = by_move move.Looks (may.0, none) tt refl (λ p c n is. is) (λ q ne. refl) words refl (looked_at at (ports k))
             (ap after (sym (ap (λ (o : Option OwnedArena). option_map_or (having_looked (ports k)) o (ports k)) none))) entering
-        by (Some o) is marks = by_move (move.LooksAsOwner o) (is, marks) tt refl (λ p c n is. is) (λ q ne. refl) words refl (looked_at at (ports k))
+        by (Some o) is stored_entering = by_move (move.LooksAsOwner o) (is, stored_entering) tt refl (λ p c n is. is) (λ q ne. refl) words refl (looked_at at (ports k))
             (ap after (sym (ap (λ (o : Option OwnedArena). option_map_or (having_looked (ports k)) o (ports k)) is))) entering
 
 -- such a step of a seat, in a call that began then
@@ -275,30 +275,30 @@ module _ {S : Type 0} (a : About) (slots id : ℕ) (me : Me S (List SeatedPort))
       moved_quietly a words (slice_set words i (f n)) ports notes b reckoned x w s known (g n) (quiet n) x.began s.began to (R x n) (says words ports b w.epochs s.number s.port))
 
   -- the first step of entering
-  pub may_mark : x.port.control.entering ≡ Stands → x.port.control.past ≡ true → x.port.control.owned ≡ None →
-      Allows (IsRuleKept a) slots id me (at_word x.number) (λ n. marked x.port.control.here) (tells StoresMark me)
-  may_mark stands past none = quietly (at_word x.number) (λ n. marked x.port.control.here) (λ n. marks) StoresMark
+  pub may_entering : x.port.control.entering ≡ Stands → x.port.control.past ≡ true → x.port.control.owned ≡ None →
+      Allows (IsRuleKept a) slots id me (at_word x.number) (λ n. entering_from x.port.control.here) (tells StoresEnteringWord me)
+  may_entering stands past none = quietly (at_word x.number) (λ n. entering_from x.port.control.here) (λ n. stored_entering) StoresEnteringWord
       (λ n. record { part = λ p. refl; before = λ p. refl; here = λ p. refl; passed = λ p. omega arith })
       (λ words ports notes b reckoned w time below is entering come.
       let k : ℕ = x.number in
-      let may : MayMove (plan_of a) words ports b notes k move.StoresMark =
+      let may : MayMove (plan_of a) words ports b notes k move.StoresEnteringWord =
       (ap (λ (p : Port). p.control.entering) (sym is) ∙ stands, ap (λ (p : Port). p.control.past) (sym is) ∙ past, ap (λ (p : Port). p.control.owned) (sym is) ∙ none) in
-      by_move a words ports notes b reckoned w time k below x.began move.StoresMark may tt refl (λ p c n is. is) (λ q ne. put_other k (length b.before) reckoned.since q ne)
-      (slice_set words (at_word k) (marked x.port.control.here)) (ap (λ (p : Port). slice_set words (at_word k) (marked p.control.here)) (sym is)) (marks (ports k)) refl
+      by_move a words ports notes b reckoned w time k below x.began move.StoresEnteringWord may tt refl (λ p c n is. is) (λ q ne. put_other k (length b.before) reckoned.since q ne)
+      (slice_set words (at_word k) (entering_from x.port.control.here)) (ap (λ (p : Port). slice_set words (at_word k) (entering_from p.control.here)) (sym is)) (stored_entering (ports k)) refl
       (subst (λ n. x.began.epoch ≤ n) (sym (put_same k (length b.before) reckoned.since)) come))
       (λ words ports b w below is. refl)
 
   -- the second
-  pub may_load : x.port.control.entering ≡ Marks → Allows (IsRuleKept a) slots id me current_word (λ n. n) (tells LoadsCurrent me)
-  may_load marks_it = quietly current_word (λ n. n) (λ n. loads (unpacked n)) LoadsCurrent (λ n. record { part = λ p. refl; before = λ p. refl; here = λ p. refl; passed = λ p. omega arith })
+  pub may_load : x.port.control.entering ≡ StoredEntering → Allows (IsRuleKept a) slots id me current_word (λ n. n) (tells LoadsCurrent me)
+  may_load enterings_it = quietly current_word (λ n. n) (λ n. loads (unpacked n)) LoadsCurrent (λ n. record { part = λ p. refl; before = λ p. refl; here = λ p. refl; passed = λ p. omega arith })
       (λ words ports notes b reckoned w time below is entering come.
       let k : ℕ = x.number in
       let n : ℕ = slice_index words current_word in
-      let marks' = ap (λ (p : Port). p.control.entering) (sym is) ∙ marks_it in
+      let marks' = ap (λ (p : Port). p.control.entering) (sym is) ∙ enterings_it in
       by_move a words ports notes b reckoned w time k below x.began move.LoadsCurrent marks' tt refl (λ p c n is. is) (λ q ne. refl) (slice_set words current_word n) (load_same words current_word)
       (loads (unpacked n) (ports k)) refl (subst (λ (t : Entering). IsSince x.began t (reckoned.since k)) marks' entering))
       (λ words ports b w below is.
-      let to = entries_load (plan_of a) words ports b x.number w below (ap (λ (p : Port). p.control.entering) (sym is) ∙ marks_it) in
+      let to = entries_load (plan_of a) words ports b x.number w below (ap (λ (p : Port). p.control.entering) (sym is) ∙ enterings_it) in
       let site : unpacked (slice_index words current_word) ≡ site_now b = ap unpacked to.0 ∙ unpacked_is (site_now b) w.plan.arenas w.control.site.arena in (
         to.0 ∙ ap packed (sym site),
         subst (λ (z : About). IsSite (plan_of z) (unpacked (slice_index words current_word))) (sym own) (subst (IsSite (plan_of a)) (sym site) w.control.site),

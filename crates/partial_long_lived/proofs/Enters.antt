@@ -1,5 +1,5 @@
 -- The exchange of the entering word is allowed.
-use Rattle.partial_long_lived.proofs.{Common.{ℕ, ◌≡◌, ◌<◌, ◌≤◌, ◌==◌, ◌++◌, if◌then◌else◌, None, List, [], ◌∷◌, length, slice_index, slice_set, refl, sym, ap, subst, ◌∙◌, inl, inr, arith, append-nil, append_assoc, eqb_tells, either, Me, Allows, Applied, LegalNotes, Noted, put, IsSite, Site, Plan, at_word, marked, packed, history_of, public_log, Entering, Port, Loaded, arrived_port, Beside, LawfulEpochs, site_now, Reckons, Reckoning, LawfulMemory, EpochReached, not_marked, put_other, put_same, history_grows, history_longer, About, IsRuleKept, IsSeat, IsSeen, IsSince, SeatedPort, one_of, plan_of, seen_in, BeginsWith, IsSeatKnown, IsOne, tells, SeatArrives, site_found, unpacked, ends, every_step_stays_lawful, unpacked_is}, Seen.legal_begins, Kept.{Moved, allowed, none_grown, not_grown}, Control.{led_to, reckoned_after, unnoted}, Changes.either_cond}
+use Rattle.partial_long_lived.proofs.{Common.{ℕ, ◌≡◌, ◌<◌, ◌≤◌, ◌==◌, ◌++◌, if◌then◌else◌, None, List, [], ◌∷◌, length, slice_index, slice_set, refl, sym, ap, subst, ◌∙◌, inl, inr, arith, append-nil, append_assoc, eqb_tells, either, Me, Allows, Applied, LegalNotes, Noted, put, IsSite, Site, Plan, at_word, entering_from, packed, history_of, public_log, Entering, Port, Loaded, arrived_port, Beside, LawfulEpochs, site_now, Reckons, Reckoning, LawfulMemory, EpochReached, not_entering_word, put_other, put_same, history_grows, history_longer, About, IsRuleKept, IsSeat, IsSeen, IsSince, SeatedPort, one_of, plan_of, seen_in, BeginsWith, IsSeatKnown, IsOne, tells, SeatArrives, site_found, unpacked, ends, every_step_stays_lawful, unpacked_is}, Seen.legal_begins, Kept.{Moved, allowed, none_grown, not_grown}, Control.{led_to, reckoned_after, unnoted}, Changes.either_cond}
 use Rattle.partial_epochs.specs.EveryStep.{Move as move}
 use Rattle.partial_epochs.specs.Entering as law
 
@@ -7,12 +7,12 @@ use Rattle.partial_epochs.specs.Entering as law
 arrival_site : (e : Plan) (words : List ℕ) (ports : ℕ → Port) (b : Beside) (k : ℕ) (c : Site) → LawfulEpochs e words ports b → k < e.ports → (w : law.Arrives e words ports b k c) →
     site_found (ports k) c (slice_index words (at_word k)) ≡ w.site
 arrival_site e words ports b k c lawful below w = elim w.is [
-  | inl won ↦ (elim (eqb_tells n (marked here)) [
+  | inl won ↦ (elim (eqb_tells n (entering_from here)) [
     | inl same ↦ ap (λ t. if t then c else unpacked n) same.0 ∙ sym won.1
     | inr other ↦ absurd (other.1 won.0)
   ])
-  | inr lost ↦ (elim (eqb_tells n (marked here)) [
-    | inl same ↦ absurd (not_marked e w.site here lawful.plan.arenas there (sym lost ∙ same.1))
+  | inr lost ↦ (elim (eqb_tells n (entering_from here)) [
+    | inl same ↦ absurd (not_entering_word e w.site here lawful.plan.arenas there (sym lost ∙ same.1))
     | inr other ↦ ap (λ t. if t then c else unpacked n) other.0 ∙ ap unpacked lost ∙ unpacked_is w.site lawful.plan.arenas there.arena
   ])
 ]
@@ -44,7 +44,7 @@ arrival_seen b p q seen old new later none =
 
 arrival : (a : About) (words : List ℕ) (ports : ℕ → Port) (notes : ℕ → List Noted) (b : Beside) (reckoned : Reckoning) (x : SeatedPort) → LawfulMemory (plan_of a) words ports b notes →
     Reckons (plan_of a) words ports (site_now b) reckoned → IsSeat a words ports notes b reckoned x → IsSeatKnown x → (c : Site) → x.port.control.entering ≡ Loaded c → (v : ℕ) →
-    (if slice_index words (at_word x.number) == marked (ports x.number).control.here then packed c else slice_index words (at_word x.number)) ≡ v →
+    (if slice_index words (at_word x.number) == entering_from (ports x.number).control.here then packed c else slice_index words (at_word x.number)) ≡ v →
     Moved a words (slice_set words (at_word x.number) v) ports notes b reckoned x (SeatArrives c x (slice_index words (at_word x.number)))
 arrival a words ports notes b reckoned x w time s known c loaded v word =
     let e : Plan = plan_of a in
@@ -52,10 +52,10 @@ arrival a words ports notes b reckoned x w time s known c loaded v word =
     let n : ℕ = slice_index words (at_word k) in
     let own : x.about ≡ a = s.about in
     let loaded' : (ports k).control.entering ≡ Loaded c = ap (λ (p : Port). p.control.entering) (sym s.port) ∙ loaded in
-    let l = every_step_stays_lawful e words ports b notes k (move.ExchangesMark c) w s.number loaded' in
+    let l = every_step_stays_lawful e words ports b notes k (move.ExchangesEnteringWord c) w s.number loaded' in
     let to : law.Arrives (plan_of a) words ports b k c = l.becomes.0 in
     let p : Port = arrived_port e k to.site to.before in
-    let led = led_to a words ports notes b reckoned w time k s.number (move.ExchangesMark c) loaded' tt (λ q ne. refl) l (let same = ap (λ (d : Beside). length d.before) l.becomes.2 in omega (arith, same)) (slice_set words (at_word k) v) (ap (λ v. slice_set words (at_word k) v) word) p l.becomes.1 b l.becomes.2 [] l.becomes.3 in
+    let led = led_to a words ports notes b reckoned w time k s.number (move.ExchangesEnteringWord c) loaded' tt (λ q ne. refl) l (let same = ap (λ (d : Beside). length d.before) l.becomes.2 in omega (arith, same)) (slice_set words (at_word k) v) (ap (λ v. slice_set words (at_word k) v) word) p l.becomes.1 b l.becomes.2 [] l.becomes.3 in
     let lawful : LawfulMemory e (slice_set words (at_word k) v) (put k p ports) b notes = unnoted a words ports notes b reckoned w time k s.number (slice_set words (at_word k) v) (put k p ports) b led.lawful in
     let site : site_found x.port c n ≡ to.site = ap (λ (q : Port). site_found q c n) s.port ∙ arrival_site e words ports b k c w.epochs s.number to in
     let old : EpochReached b x.port = subst (EpochReached b) (sym s.port) (w.noted.reached k s.number) in
@@ -72,7 +72,7 @@ arrival a words ports notes b reckoned x w time s known c loaded v word =
       ports' = put k p ports;
       notes' = notes;
       beside = b;
-      reckoned' = reckoned_after b k (move.ExchangesMark c) reckoned led.there;
+      reckoned' = reckoned_after b k (move.ExchangesEnteringWord c) reckoned led.there;
       lawful = lawful;
       time = led.time;
       others = λ q ne. (put_other k p ports q ne, refl);
@@ -112,8 +112,8 @@ module _ {S : Type 0} (a : About) (slots id : ℕ) (me : Me S (List SeatedPort))
   x = one_of me.0
 
   pub may_arrive : (c : Site) → x.port.control.entering ≡ Loaded c →
-      Allows (IsRuleKept a) slots id me (at_word x.number) (λ n. either (n == marked x.port.control.here) (packed c) n) (tells (SeatArrives c) me)
-  may_arrive c loaded = allowed a slots id me (at_word x.number) (λ n. either (n == marked x.port.control.here) (packed c) n) (SeatArrives c) one own (λ words ports notes b reckoned w time s small.
+      Allows (IsRuleKept a) slots id me (at_word x.number) (λ n. either (n == entering_from x.port.control.here) (packed c) n) (tells (SeatArrives c) me)
+  may_arrive c loaded = allowed a slots id me (at_word x.number) (λ n. either (n == entering_from x.port.control.here) (packed c) n) (SeatArrives c) one own (λ words ports notes b reckoned w time s small.
       let n : ℕ = slice_index words (at_word x.number) in
-      arrival a words ports notes b reckoned x w time s known c loaded (either (n == marked x.port.control.here) (packed c) n)
-      (ap (λ (p : Port). if n == marked p.control.here then packed c else n) (sym s.port) ∙ either_cond (n == marked x.port.control.here) (packed c) n))
+      arrival a words ports notes b reckoned x w time s known c loaded (either (n == entering_from x.port.control.here) (packed c) n)
+      (ap (λ (p : Port). if n == entering_from p.control.here then packed c else n) (sym s.port) ∙ either_cond (n == entering_from x.port.control.here) (packed c) n))

@@ -1,5 +1,5 @@
 -- What a look leaves of a port.
-use Rattle.partial_long_lived.proofs.{Common.{ℕ, ◌≡◌, ◌==◌, Bool, true, false, if◌then◌else◌, Option, Some, None, refl, sym, ap, ◌∙◌, option_map_or, packed, OwnedArena, Port, having_passed, having_looked, Stand, SeatedPort, port_at, having_found, looked_at, StaysAt, LookFound, HasTaken, HoldsMark, IsPast, MayPutPort, Owns, Remains, HasSetWords, Began, Contention, becomes, Searches, SearchesOn, PassBegun, BeginsPass, HasPassedArenas, arith, subst}, Working.searches_still}
+use Rattle.partial_long_lived.proofs.{Common.{ℕ, ◌≡◌, ◌==◌, Bool, true, false, if◌then◌else◌, Option, Some, None, refl, sym, ap, ◌∙◌, option_map_or, packed, OwnedArena, Port, having_passed, having_looked, Stand, SeatedPort, port_at, having_found, looked_at, StaysAt, LookFound, HasTaken, HoldsEnteringWord, IsPast, MayPutPort, Owns, Remains, HasSetWords, Began, Contention, becomes, Searches, SearchesOn, PassBegun, BeginsPass, HasPassedArenas, arith, subst}, Working.searches_still}
 use Rattle.std.proofs.lemmas.Bool.{eqb-true as eqb_true}
 
 -- what a look leaves as it was, whatever it finds
@@ -110,18 +110,18 @@ pub taken_works : (s t : Stand) (b : Bool) (y : ℕ) → HasTaken s y → LookFo
 taken_works s t b y taken w here =
     let is = looked_own false s t b w here _ taken.is in record {
       stands = ap (λ (p : Port). p.control.entering) is ∙ taken.stands;
-      owned = record { arena = y; looked = true; clean = 0; mark = None; again = true; set = 0 };
+      owned = record { arena = y; looked = true; clean = 0; entering_word = None; again = true; set = 0 };
       is = ap (λ (p : Port). p.control.owned) is;
       arena = refl;
       looked = refl;
       clean = refl;
-      mark = refl;
+      entering_word = refl;
       set = refl;
     }
 
 -- and the look once it has loaded an entering word
-pub marked_puts : (s t : Stand) (b : Bool) (y q a : ℕ) → HoldsMark s y q a → LookFound false s b t → b ≡ true → MayPutPort t y q a
-marked_puts s t b y q a holds w here =
+pub entering_puts : (s t : Stand) (b : Bool) (y q a : ℕ) → HoldsEnteringWord s y q a → LookFound false s b t → b ≡ true → MayPutPort t y q a
+entering_puts s t b y q a holds w here =
     let is = looked_own false s t b w here holds.owned holds.is in record {
       holds = record {
         stands = ap (λ (p : Port). p.control.entering) is ∙ holds.stands;
@@ -130,7 +130,7 @@ marked_puts s t b y q a holds w here =
         arena = holds.arena;
         looked = refl;
         clean = holds.clean;
-        mark = holds.mark;
+        entering_word = holds.entering_word;
         set = holds.set;
       };
       again = refl;

@@ -1,5 +1,5 @@
 -- The steps of a port's machine are allowed.
-use Rattle.partial_long_lived.proofs.{Common.{ℕ, ◌≡◌, ◌≢◌, ◌+◌, ◌<◌, ◌≤◌, ◌||◌, ◌++◌, Bool, true, false, if◌then◌else◌, Option, Some, None, IfSome, List, [], ◌∷◌, length, map, take, drop, slice_index, slice_set, refl, sym, ap, subst, ◌∙◌, inl, inr, arith, append-nil, append_assoc, length-append, AllByRecursion, length-map, take-append-drop, take-append-le, set-get_or, Applied, Call, Answer, stamp_of, LegalNotes, Noted, seen_by, Step, Load, Store, Exchange, Add, answer_of, word_of, words_after, CoreState, advance, reply_of, answer_for, call_of, is_begun, Part, core_of, begun_with, since_with, put, IsSealed, Site, Plan, arena_words, base, component_words, plain, based_step, history_of, opened_after, public_entry, public_log, among, history_longer, known, Control, Entering, Epoch, Port, Stands, Marks, Loaded, IsOld, option_map, present_history, all_back, Beside, IsStanding, LawfulEpochs, numbers, site_now, HaveSlots, MachineLeads, MeetsSeal, ends_over, ExpectedOne, LawfulMemory, EpochReached, noting, public_noted, Reckons, Reckoning, machines_are_never_refused, put_other, put_same, About, Began, Found, IsFinal, IsLast, IsSeat, SeatedPort, plan_of, seen_in, BeginsWith, IsSeatKnown, IsApart, SeatMakes, MayMake, unsealed_answer, change_of, over_by, told_of, legal_notes_seen, one_or_none, Contention, every_step_stays_lawful, MayNote, ◌⊎◌, MayMove}, Begins.{began_by, seen_few}, Control.{stands_since, led_to, reckoned_after}, Kept.{GoesOn, Grows, HasGrown, HaveGrown, Moved, begun_grows, final_grows, moved_says}, Lists.same_before, Seen.legal_begins, Loads.{begun_place, seat_at}}
+use Rattle.partial_long_lived.proofs.{Common.{ℕ, ◌≡◌, ◌≢◌, ◌+◌, ◌<◌, ◌≤◌, ◌||◌, ◌++◌, Bool, true, false, if◌then◌else◌, Option, Some, None, IfSome, List, [], ◌∷◌, length, map, take, drop, slice_index, slice_set, refl, sym, ap, subst, ◌∙◌, inl, inr, arith, append-nil, append_assoc, length-append, AllByRecursion, length-map, take-append-drop, take-append-le, set-get_or, Applied, Call, Answer, stamp_of, LegalNotes, Noted, seen_by, Step, Load, Store, Exchange, Add, answer_of, word_of, words_after, CoreState, advance, reply_of, answer_for, call_of, is_begun, Part, core_of, begun_with, since_with, put, IsSealed, Site, Plan, arena_words, base, component_words, plain, based_step, history_of, opened_after, public_entry, public_log, among, history_longer, known, Control, Entering, Epoch, Port, Stands, StoredEntering, Loaded, IsOld, option_map, present_history, all_back, Beside, IsStanding, LawfulEpochs, numbers, site_now, HaveSlots, MachineLeads, MeetsSeal, ends_over, ExpectedOne, LawfulMemory, EpochReached, noting, public_noted, Reckons, Reckoning, machines_are_never_refused, put_other, put_same, About, Began, Found, IsFinal, IsLast, IsSeat, SeatedPort, plan_of, seen_in, BeginsWith, IsSeatKnown, IsApart, SeatMakes, MayMake, unsealed_answer, change_of, over_by, answer_found, legal_notes_seen, one_or_none, Contention, every_step_stays_lawful, MayNote, ◌⊎◌, MayMove}, Begins.{began_by, seen_few}, Control.{stands_since, led_to, reckoned_after}, Kept.{GoesOn, Grows, HasGrown, HaveGrown, Moved, begun_grows, final_grows, moved_says}, Lists.same_before, Seen.legal_begins, Loads.{begun_place, seat_at}}
 use Rattle.partial_epochs.specs.EveryStep.{Move as move}
 
 -- a step does the same to plain words as to those of a table
@@ -9,7 +9,7 @@ words_then words e x (Store w v) = refl
 words_then words e x (Exchange w old new) = refl
 words_then words e x (Add w k) = refl
 
-told_then : (words : List ℕ) (e : Plan) (x : ℕ) (s : Step) → answer_of words (based_step e x s) ≡ told_of s (slice_index words (base e x + word_of s))
+told_then : (words : List ℕ) (e : Plan) (x : ℕ) (s : Step) → answer_of words (based_step e x s) ≡ answer_found s (slice_index words (base e x + word_of s))
 told_then words e x (Load w) = refl
 told_then words e x (Store w v) = refl
 told_then words e x (Exchange w old new) = refl
@@ -35,7 +35,7 @@ module _ (e : Plan) (words : List ℕ) (ports : ℕ → Port) (b : Beside) (w : 
     where
       by : (t : Entering) → (ports q).control.entering ≡ t → IsOld e (length b.before) (ports q).control.here t → (ports q).control.entering ≡ Stands
       by Stands is old = is
-      by Marks is old = let long = ap (λ (l : List (List Applied)). length l) same in absurd (omega (arith, epoch, long, old))
+      by StoredEntering is old = let long = ap (λ (l : List (List Applied)). length l) same in absurd (omega (arith, epoch, long, old))
       by (Loaded d) is old =
           let long = ap (λ (l : List (List Applied)). length l) same in
           let up = old.0 in

@@ -1,5 +1,5 @@
 -- The search of a port for a free arena goes on.
-use Rattle.partial_long_lived.proofs.{Common.{ℕ, ◌≡◌, ◌≢◌, ◌+◌, ◌*◌, ◌<◌, ◌≤◌, ◌==◌, ◌⊎◌, nat_lt, Bool, true, false, if◌then◌else◌, Option, Some, None, List, slice_index, slice_set, refl, sym, ap, subst, ◌∙◌, inl, inr, arith, eqb_tells, Me, Allows, Noted, put, Site, Plan, at_word, current_word, packed, OwnedArena, Port, Stands, Beside, LawfulEpochs, site_now, put_same, put_other, About, Began, Contention, Search, Reckoning, IsRuleKept, IsSearching, SeatedPort, one_of, plan_of, IsSeatKnown, IsOne, tells, looked_at, passing, meeting, BeginsPass, BeginsSearch, Tally, HasSeenArrival, IsInUse, IsNamed, may_free, most_freed, few_come_free, meetings_keep_tally, own_sites_are_in_use, some_arena_is_free, entering_mark, unpacked, length, Applied, IsOld}, Kept.{GoesOn, allowed}, Control.{MayLook, OwnSearch, Quietly, Still, by_look, load_same, looked_quiet, looked_stands, moved_searching}, Begins.here_is}
+use Rattle.partial_long_lived.proofs.{Common.{ℕ, ◌≡◌, ◌≢◌, ◌+◌, ◌*◌, ◌<◌, ◌≤◌, ◌==◌, ◌⊎◌, nat_lt, Bool, true, false, if◌then◌else◌, Option, Some, None, List, slice_index, slice_set, refl, sym, ap, subst, ◌∙◌, inl, inr, arith, eqb_tells, Me, Allows, Noted, put, Site, Plan, at_word, current_word, packed, OwnedArena, Port, Stands, Beside, LawfulEpochs, site_now, put_same, put_other, About, Began, Contention, Search, Reckoning, IsRuleKept, IsSearching, SeatedPort, one_of, plan_of, IsSeatKnown, IsOne, tells, looked_at, passing, meeting, BeginsPass, BeginsSearch, Tally, HasSeenArrival, IsInUse, IsNamed, may_free, most_freed, few_come_free, meetings_keep_tally, own_sites_are_in_use, some_arena_is_free, entering_bit, unpacked, length, Applied, IsOld}, Kept.{GoesOn, allowed}, Control.{MayLook, OwnSearch, Quietly, Still, by_look, load_same, looked_quiet, looked_stands, moved_searching}, Begins.here_is}
 use Rattle.partial_epochs.specs.FreeArenas.{credit, gives_left, sum_below, weight}
 
 -- how often arenas may come free has nothing to do with who has met another port
@@ -11,7 +11,7 @@ may_free_same : (e : Plan) (words : List ℕ) (ports : ℕ → Port) (now : ℕ)
 may_free_same e words ports now since t met = ap (λ (f : ℕ → ℕ). sum_below f e.ports) (λ i k. each k i)
   where
     each : (k : ℕ) → weight e words ports now since (record t { met = met }) k ≡ weight e words ports now since t k
-    each k = ap (λ n. if nat_lt (slice_index words (at_word k)) entering_mark then (if (unpacked (slice_index words (at_word k))).epoch == now then n else (e.ports + 1) + gives_left (ports k).control)
+    each k = ap (λ n. if nat_lt (slice_index words (at_word k)) entering_bit then (if (unpacked (slice_index words (at_word k))).epoch == now then n else (e.ports + 1) + gives_left (ports k).control)
         else (if nat_lt (since k) now then 2 * e.ports + 3 else e.ports + 1)) (credit_same t met k (ports k).control.owned)
 
 -- after a step of port k

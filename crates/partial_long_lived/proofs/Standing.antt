@@ -52,7 +52,7 @@ site_small table about s h =
 
 -- a port of the memory may look
 pub own_look : (about : About) (s : Stand) → (port_at s).about ≡ about → Calls.MayLook s → Control.MayLook about (port_at s).port
-own_look about s own may = (may.stands, subst (λ (a : About). IfSome (port_at s).port.control.owned (λ o. (o.mark ≡ None) ⊎ (o.clean < a.ports))) own may.marks)
+own_look about s own may = (may.stands, subst (λ (a : About). IfSome (port_at s).port.control.owned (λ o. (o.entering_word ≡ None) ⊎ (o.clean < a.ports))) own may.entering_words)
 
 -- words of the arena where the port stands
 module _ (table : TableId) (about : About) (s : Stand) (h : IsHeld table about s) where

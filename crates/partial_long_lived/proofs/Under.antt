@@ -1,5 +1,5 @@
 -- The steps of a call of a port's machine, one after the other.
-use Rattle.partial_long_lived.proofs.{Common.{ℕ, ◌≡◌, ◌≢◌, ◌+◌, ◌<◌, ◌≤◌, ◌==◌, ◌&&◌, ◌||◌, ◌++◌, Bool, true, false, if◌then◌else◌, Option, Some, None, List, [], ◌∷◌, length, map, take, refl, sym, ap, subst, ◌∙◌, inl, inr, arith, append-nil, nat_lt, eqb_tells, append_cancel_left, Applied, Opening, stamp_of, Noted, seen_by, Step, Load, Store, Exchange, Add, Layout, IsLayout, pool_counter, slot_counter, total, word_of, Reply, Change, Stage, Idle, ReadBegun, LoadingValue, UpdateBegun, GettingSet, Viewing, ClaimingRecord, StoringRecord, Exchanging, ScanBegun, StoringAnnouncement, Joining, Scanning, Leaving, Finished, some_same, CoreState, advance, advance_at, record_size, reply_of, step_at, step_of, call_of, is_begun, IsSound, Part, first_at, AreNotesOf, Tells, begun_with, moved_part, take_within, first_steps_make_calls, further_steps_make_calls, history_of, opened_after, Control, MayClaim, public_noted, About, Began, SeatedPort, plan_of, SeatGoes, opening_of, SeatMakes, MayMake, over_by, slot_limit, CallMade, MayBegin, awaits, before_claim, has_claimed, neither, record_claim, IsBehind, refuses_pool, refuses_slots, due_is_unreplied, due_words_are_there, KeptAnswer, Call, record_cases, Block, claimed_end, claim_size, into_spare, into_claim, record_step}, Claims.{ClaimsSlot, claimed_from, pool_claims, slot_claims, unawaited, unclaimed_before, claims_on, spare_stays}, Coming.goes_on}
+use Rattle.partial_long_lived.proofs.{Common.{ℕ, ◌≡◌, ◌≢◌, ◌+◌, ◌<◌, ◌≤◌, ◌==◌, ◌&&◌, ◌||◌, ◌++◌, Bool, true, false, if◌then◌else◌, Option, Some, None, List, [], ◌∷◌, length, map, take, refl, sym, ap, subst, ◌∙◌, inl, inr, arith, append-nil, nat_lt, eqb_tells, append_cancel_left, Applied, Opening, stamp_of, Noted, seen_by, Step, Load, Store, Exchange, Add, Layout, IsLayout, pool_counter, slot_counter, total, word_of, Reply, Change, Stage, Idle, ReadBegun, LoadingValue, UpdateBegun, GettingSet, Viewing, ClaimingRecord, StoringRecord, Exchanging, ScanBegun, StoringAnnouncement, Joining, Scanning, Leaving, Finished, some_same, CoreState, advance, advance_at, record_size, reply_of, step_at, step_of, call_of, is_begun, IsSound, Part, first_at, AreNotesOf, StepShows, begun_with, moved_part, take_within, first_steps_make_calls, further_steps_make_calls, history_of, opened_after, Control, MayClaim, public_noted, About, Began, SeatedPort, plan_of, SeatGoes, opening_of, SeatMakes, MayMake, over_by, slot_limit, CallMade, MayBegin, awaits, before_claim, has_claimed, neither, record_claim, IsAfterAnswer, refuses_pool, refuses_slots, due_is_unreplied, due_words_are_there, KeptAnswer, Call, record_cases, Block, claimed_end, claim_size, into_spare, into_claim, record_step}, Claims.{ClaimsSlot, claimed_from, pool_claims, slot_claims, unawaited, unclaimed_before, claims_on, spare_stays}, Coming.goes_on}
 use Rattle.std.proofs.lemmas.Bool.{eq-eqb, ne_eqb, le-ltb, ltb-true, ltb-false}
 use Rattle.partial_model.specs.declared.call.Refused.{Refused}
 use Rattle.partial_core.specs.Calls.{Made}
@@ -90,7 +90,7 @@ past_stays c x behind = by (before_claim (advance c x).stage) refl
     by false is = is
 
 -- a machine that isn't refused doesn't become spent
-stays_unmarked : (c : CoreState) (x : ℕ) → IsBehind c x → ((cause : Refused) → reply_of (advance c x) ≢ Some (Reply.Refused cause)) → (c.pool_spent ≡ false) × (c.slots_spent ≡ false) →
+stays_unmarked : (c : CoreState) (x : ℕ) → IsAfterAnswer c x → ((cause : Refused) → reply_of (advance c x) ≢ Some (Reply.Refused cause)) → (c.pool_spent ≡ false) × (c.slots_spent ≡ false) →
     ((advance c x).pool_spent ≡ false) × ((advance c x).slots_spent ≡ false)
 stays_unmarked c x b none was = (
   b.pool ∙ ap (λ t. refuses_pool (reply_of (advance c x)) || t) was.0 ∙ ap (λ t. t || false) (no_pool (reply_of (advance c x)) none),
@@ -308,9 +308,9 @@ module _ (b : CoreState) (x : SeatedPort) (begins : MayBegin b x) (c : CoreState
     next_part : z.port.part ≡ moved_part c a (m.log ++ m.entries) m.told.new y.port.part
     next_part = m.told.part
 
-    told_there : Tells x.about.sizes (opening_of x) m.log m.entries y.port.part c a z.port.part
-    told_there = subst (λ (o : Opening). Tells x.about.sizes o m.log m.entries y.port.part c a z.port.part) opening_same
-        (subst (λ (d : About). Tells d.sizes (opening_of y) m.log m.entries y.port.part c a z.port.part) about_same m.told)
+    told_there : StepShows x.about.sizes (opening_of x) m.log m.entries y.port.part c a z.port.part
+    told_there = subst (λ (o : Opening). StepShows x.about.sizes o m.log m.entries y.port.part c a z.port.part) opening_same
+        (subst (λ (d : About). StepShows d.sizes (opening_of y) m.log m.entries y.port.part c a z.port.part) about_same m.told)
 
     next_call : Made x.about.sizes (opening_of x) b x.port.part (advance c a) z.port.part
     next_call = further_steps_make_calls x.about.sizes (opening_of x) m.log m.entries b x.port.part c y.port.part a z.port.part had.made told_there

@@ -2,7 +2,7 @@
 use Rattle.std.proofs.Common.{le-ltb}
 use Rattle.partial_long_lived.specs.declared.claim.Claimed.{Claimed}
 use Rattle.partial_long_lived.specs.declared.claim.Claimed.TheVariants.{Clean, Taken, Ended}
-use Rattle.partial_long_lived.proofs.{Common.{ℕ, value_word, initial_record, ◌≡◌, ◌≢◌, ◌+◌, ◌-◌, ◌%◌, ◌<◌, ◌≤◌, Bool, true, if◌then◌else◌, Option, Some, None, IfSome, refl, sym, ap, subst, ◌∙◌, inl, inr, arith, nat_lt, lt-ltb, Layout, first_free, Site, arena_limit, entering_mark, marked, OwnedArena, Stands, at_next_port, having_loaded, owning_port, resting_arena, not_below, About, Stand, SeatedPort, port_at, LoadsPort, SeatPublishes, PutsPort, Sets, becomes, elsewhere, port_loaded, port_put, unpacked, HasLoadedPort, IsRight, MayPutPort, OfOwned, Owns, PutsBy, SetsLists, SetsValue, HasControl, Control, after_value, after_values, SetsNext, HasSetWords, FindsClear, Contention, Takes, contention_loading, contention_putting, contention_there, cases_lt, ◌⊎◌, TakesBy, Searches, SearchesOn, search_at, MeetsPort, HasPassedArenas, passing, meeting, GivesBack, SeatGives, having_given, just_taken, taken_at, contention_taking, Port, false, eqb_tells, ◌&&◌, ◌==◌, MeetsBy}, Sets.{alike, unlike, value_behind}}
+use Rattle.partial_long_lived.proofs.{Common.{ℕ, value_word, initial_record, ◌≡◌, ◌≢◌, ◌+◌, ◌-◌, ◌%◌, ◌<◌, ◌≤◌, Bool, true, if◌then◌else◌, Option, Some, None, IfSome, refl, sym, ap, subst, ◌∙◌, inl, inr, arith, nat_lt, lt-ltb, Layout, first_free, Site, arena_limit, entering_bit, entering_from, OwnedArena, Stands, at_next_port, having_loaded, owning_port, resting_arena, not_below, About, Stand, SeatedPort, port_at, LoadsPort, SeatPublishes, PutsPort, Sets, becomes, elsewhere, port_loaded, port_put, unpacked, HasLoadedPort, IsRight, MayPutPort, OfOwned, Owns, PutsBy, SetsLists, SetsValue, HasControl, Control, after_value, after_values, SetsNext, HasSetWords, FindsClear, Contention, Takes, contention_loading, contention_putting, contention_there, cases_lt, ◌⊎◌, TakesBy, Searches, SearchesOn, search_at, MeetsPort, HasPassedArenas, passing, meeting, GivesBack, SeatGives, having_given, just_taken, taken_at, contention_taking, Port, false, eqb_tells, ◌&&◌, ◌==◌, MeetsBy}, Sets.{alike, unlike, value_behind}}
 
 -- a step by the arena that the port owns
 own_told : (R : OwnedArena → SeatedPort → ℕ → SeatedPort → Type 0) (x : SeatedPort) (a : ℕ) (y : SeatedPort) (o : OwnedArena) → x.port.control.owned ≡ Some o → OfOwned R x a y → R o x a y
@@ -25,7 +25,7 @@ set_kept s t y q i same w = record {
   arena = w.arena;
   looked = w.looked;
   clean = w.clean;
-  mark = w.mark;
+  entering_word = w.entering_word;
   set = w.set;
 }
 
@@ -70,14 +70,14 @@ meets_then Taken x s t u a b = on_then s t u false true x x a b
 meets_then Ended x s t u a b = tt
 
 -- what the load of the next port's word shows of the search
-pub loaded_there : (s t : Stand) (y a : ℕ) → a < entering_mark → a % arena_limit ≡ y → MeetsPort y a s t → SearchesOn true y s t
-loaded_there s t y a low same = subst (λ (c : Bool). SearchesOn c y s t) (ap (λ (c : Bool). c && (a % arena_limit == y)) (lt-ltb a entering_mark low) ∙ alike (a % arena_limit) y same)
+pub loaded_there : (s t : Stand) (y a : ℕ) → a < entering_bit → a % arena_limit ≡ y → MeetsPort y a s t → SearchesOn true y s t
+loaded_there s t y a low same = subst (λ (c : Bool). SearchesOn c y s t) (ap (λ (c : Bool). c && (a % arena_limit == y)) (lt-ltb a entering_bit low) ∙ alike (a % arena_limit) y same)
 
-pub loaded_away : (s t : Stand) (y a : ℕ) → a < entering_mark → a % arena_limit ≢ y → MeetsPort y a s t → SearchesOn false y s t
-loaded_away s t y a low ne = subst (λ (c : Bool). SearchesOn c y s t) (ap (λ (c : Bool). c && (a % arena_limit == y)) (lt-ltb a entering_mark low) ∙ unlike (a % arena_limit) y ne)
+pub loaded_away : (s t : Stand) (y a : ℕ) → a < entering_bit → a % arena_limit ≢ y → MeetsPort y a s t → SearchesOn false y s t
+loaded_away s t y a low ne = subst (λ (c : Bool). SearchesOn c y s t) (ap (λ (c : Bool). c && (a % arena_limit == y)) (lt-ltb a entering_bit low) ∙ unlike (a % arena_limit) y ne)
 
-pub loaded_marked : (s t : Stand) (y a : ℕ) → entering_mark ≤ a → MeetsPort y a s t → SearchesOn false y s t
-loaded_marked s t y a from = subst (λ (c : Bool). SearchesOn c y s t) (ap (λ (c : Bool). c && (a % arena_limit == y)) (not_below a entering_mark from))
+pub loaded_entering : (s t : Stand) (y a : ℕ) → entering_bit ≤ a → MeetsPort y a s t → SearchesOn false y s t
+loaded_entering s t y a from = subst (λ (c : Bool). SearchesOn c y s t) (ap (λ (c : Bool). c && (a % arena_limit == y)) (not_below a entering_bit from))
 
 -- the exchange of the owner word of an arena
 pub take_passes : (s t : Stand) (y w a : ℕ) → w ≡ 1 + (port_at s).about.ports + y → TakesBy w (port_at s) a (port_at t) → Searches false y s → SearchesOn false (if a == 0 then y else y + 1) s t
@@ -113,8 +113,8 @@ module _ (s t : Stand) (o : OwnedArena) (m : Contention) (is : port_at t ≡ rec
   owned_then : (port_at t).port.control.owned ≡ Some o
   owned_then = ap (λ (z : SeatedPort). z.port.control.owned) is
 
-  works_then : (y q i : ℕ) → o.arena ≡ y → o.looked ≡ true → o.clean ≡ q → o.mark ≡ None → o.set ≡ i → HasSetWords t y q i
-  works_then y q i arena looked clean mark set = record { stands = stands_then; owned = o; is = owned_then; arena = arena; looked = looked; clean = clean; mark = mark; set = set }
+  works_then : (y q i : ℕ) → o.arena ≡ y → o.looked ≡ true → o.clean ≡ q → o.entering_word ≡ None → o.set ≡ i → HasSetWords t y q i
+  works_then y q i arena looked clean entering_word set = record { stands = stands_then; owned = o; is = owned_then; arena = arena; looked = looked; clean = clean; entering_word = entering_word; set = set }
 
 module _ (s t : Stand) (y q i a : ℕ) (w : HasSetWords s y q i) where
   abbrev o : OwnedArena
@@ -123,25 +123,25 @@ module _ (s t : Stand) (y q i a : ℕ) (w : HasSetWords s y q i) where
   pub set_works : SetsNext (port_at s) a (port_at t) → HasSetWords t y q (i + 1)
   set_works told =
       let r : Sets o (o.set + 1) (port_at s) a (port_at t) = own_told (λ o. Sets o (o.set + 1)) (port_at s) a (port_at t) o w.is told in
-      works_then s t (record o { set = o.set + 1 }) (port_at s).contention r w.stands y q (i + 1) w.arena w.looked w.clean w.mark (ap (λ n. n + 1) w.set)
+      works_then s t (record o { set = o.set + 1 }) (port_at s).contention r w.stands y q (i + 1) w.arena w.looked w.clean w.entering_word (ap (λ n. n + 1) w.set)
 
   pub set_lists_works : (z : Layout) → (port_at s).about.sizes ≡ z → SetsLists (port_at s) a (port_at t) → HasSetWords t y q (after_values z 0)
   set_lists_works z same told =
       let n : Layout → ℕ = λ z. after_values z 0 in
       let r : Sets o (n (port_at s).about.sizes) (port_at s) a (port_at t) = own_told (λ o. Sets o (n (port_at s).about.sizes)) (port_at s) a (port_at t) o w.is told in
-      works_then s t (record o { set = n (port_at s).about.sizes }) (port_at s).contention r w.stands y q (n z) w.arena w.looked w.clean w.mark (ap n same)
+      works_then s t (record o { set = n (port_at s).about.sizes }) (port_at s).contention r w.stands y q (n z) w.arena w.looked w.clean w.entering_word (ap n same)
 
   pub set_value_works : (z : Layout) → (port_at s).about.sizes ≡ z → (j : ℕ) → j < z.m → i ≡ after_values z j → SetsValue (port_at s) a (port_at t) → HasSetWords t y q (after_values z (j + 1))
   set_value_works z same j low at told =
       let n : OwnedArena → ℕ = λ o. after_value (port_at s).about.sizes o.set in
       let r : Sets o (n o) (port_at s) a (port_at t) = own_told (λ o. Sets o (n o)) (port_at s) a (port_at t) o w.is told in
-      works_then s t (record o { set = n o }) (port_at s).contention r w.stands y q (after_values z (j + 1)) w.arena w.looked w.clean w.mark
+      works_then s t (record o { set = n o }) (port_at s).contention r w.stands y q (after_values z (j + 1)) w.arena w.looked w.clean w.entering_word
       (ap (λ (z : Layout). after_value z o.set) same ∙ ap (after_value z) (w.set ∙ at) ∙ value_behind z j low)
 
   pub find_clear_works : (z : Layout) → (port_at s).about.sizes ≡ z → (n : ℕ) → n ≡ z.slots - a → OfOwned FindsClear (port_at s) a (port_at t) → HasSetWords t y q n
   find_clear_works z same n is told =
       let r : FindsClear o (port_at s) a (port_at t) = own_told FindsClear (port_at s) a (port_at t) o w.is told in
-      works_then s t (record o { set = (port_at s).about.sizes.slots - a }) (port_at s).contention r w.stands y q n w.arena w.looked w.clean w.mark (ap (λ (z : Layout). z.slots - a) same ∙ sym is)
+      works_then s t (record o { set = (port_at s).about.sizes.slots - a }) (port_at s).contention r w.stands y q n w.arena w.looked w.clean w.entering_word (ap (λ (z : Layout). z.slots - a) same ∙ sym is)
 
   pub publish_owns : OfOwned SeatPublishes (port_at s) a (port_at t) → Owns t y
   publish_owns told =
@@ -154,7 +154,7 @@ module _ (s t : Stand) (y q a : ℕ) (w : HasSetWords s y q 0) (told : OfOwned L
   own = w.owned
 
   abbrev holding : OwnedArena
-  holding = having_loaded own (unpacked (a - entering_mark))
+  holding = having_loaded own (unpacked (a - entering_bit))
 
   abbrev met : Contention
   met = contention_loading a own (port_at s).contention
@@ -165,24 +165,24 @@ module _ (s t : Stand) (y q a : ℕ) (w : HasSetWords s y q 0) (told : OfOwned L
   loaded_as : (o' : OwnedArena) → port_loaded a own ≡ o' → port_at t ≡ record (becomes (port_at s) (port_at s).began (owning_port (port_at s).port o')) { contention = met }
   loaded_as o' same = told_is ∙ ap (λ (o : OwnedArena). record (becomes (port_at s) (port_at s).began (owning_port (port_at s).port o)) { contention = met }) same
 
-  unmarked : a < entering_mark → port_loaded a own ≡ elsewhere a own
-  unmarked low = ap (λ (c : Bool). if c then elsewhere a own else holding) (lt-ltb a entering_mark low)
+  unmarked : a < entering_bit → port_loaded a own ≡ elsewhere a own
+  unmarked low = ap (λ (c : Bool). if c then elsewhere a own else holding) (lt-ltb a entering_bit low)
 
-  is_away : a < entering_mark → a % arena_limit ≢ y → port_loaded a own ≡ at_next_port own
+  is_away : a < entering_bit → a % arena_limit ≢ y → port_loaded a own ≡ at_next_port own
   is_away low ne = unmarked low ∙ ap (λ (c : Bool). if c then own else at_next_port own) (unlike (unpacked a).arena own.arena (λ same. ne (same ∙ w.arena)))
 
-  is_there : a < entering_mark → a % arena_limit ≡ y → port_loaded a own ≡ own
+  is_there : a < entering_bit → a % arena_limit ≡ y → port_loaded a own ≡ own
   is_there low same = unmarked low ∙ ap (λ (c : Bool). if c then own else at_next_port own) (alike (unpacked a).arena own.arena (same ∙ sym w.arena))
 
-  is_marked : entering_mark ≤ a → port_loaded a own ≡ holding
-  is_marked from = ap (λ (c : Bool). if c then elsewhere a own else holding) (not_below a entering_mark from)
+  is_entering : entering_bit ≤ a → port_loaded a own ≡ holding
+  is_entering from = ap (λ (c : Bool). if c then elsewhere a own else holding) (not_below a entering_bit from)
 
   pub port_load : HasLoadedPort t y q a
   port_load = record {
     away = λ low ne. works_then s t (at_next_port own) met (loaded_as (at_next_port own) (is_away low ne)) w.stands y (q + 1) 0 w.arena w.looked (ap (λ n. n + 1) w.clean) refl w.set;
-    there = λ low same. works_then s t own met (loaded_as own (is_there low same)) w.stands y q 0 w.arena w.looked w.clean w.mark w.set;
-    marked = λ from.
-        let now = loaded_as holding (is_marked from) in
+    there = λ low same. works_then s t own met (loaded_as own (is_there low same)) w.stands y q 0 w.arena w.looked w.clean w.entering_word w.set;
+    entering_from = λ from.
+        let now = loaded_as holding (is_entering from) in
         record {
           stands = stands_then s t holding met now w.stands;
           owned = holding;
@@ -190,14 +190,14 @@ module _ (s t : Stand) (y q a : ℕ) (w : HasSetWords s y q 0) (told : OfOwned L
           arena = w.arena;
           looked = w.looked;
           clean = w.clean;
-          mark = refl;
+          entering_word = refl;
           set = w.set;
         };
   }
 
   -- the search goes on, and a port that stands in the arena is met there
   pub port_meets : Searches false y s → MeetsPort y a s t
-  port_meets searches = by (cases_lt a entering_mark)
+  port_meets searches = by (cases_lt a entering_bit)
     where
       x : SeatedPort
       x = port_at s
@@ -208,37 +208,37 @@ module _ (s t : Stand) (y q a : ℕ) (w : HasSetWords s y q 0) (told : OfOwned L
       stays : (m : Contention) → met ≡ m → port_at t ≡ record (becomes x x.began (owning_port x.port (port_loaded a own))) { contention = m }
       stays m same = told_is ∙ ap (λ (m : Contention). record (becomes x x.began (owning_port x.port (port_loaded a own))) { contention = m }) same
 
-      low_met : a < entering_mark → met ≡ contention_there a own x.contention
-      low_met low = ap (λ (c : Bool). if c then contention_there a own x.contention else x.contention) (lt-ltb a entering_mark low)
+      low_met : a < entering_bit → met ≡ contention_there a own x.contention
+      low_met low = ap (λ (c : Bool). if c then contention_there a own x.contention else x.contention) (lt-ltb a entering_bit low)
 
-      by : (a < entering_mark) ⊎ (entering_mark ≤ a) → MeetsPort y a s t
-      by (inr from) = subst G (sym (ap (λ (c : Bool). c && (a % arena_limit == y)) (not_below a entering_mark from)))
-          (searches_still s t false y searches (owning_port x.port (port_loaded a own)) (stays x.contention (ap (λ (c : Bool). if c then contention_there a own x.contention else x.contention) (not_below a entering_mark from))) refl refl)
+      by : (a < entering_bit) ⊎ (entering_bit ≤ a) → MeetsPort y a s t
+      by (inr from) = subst G (sym (ap (λ (c : Bool). c && (a % arena_limit == y)) (not_below a entering_bit from)))
+          (searches_still s t false y searches (owning_port x.port (port_loaded a own)) (stays x.contention (ap (λ (c : Bool). if c then contention_there a own x.contention else x.contention) (not_below a entering_bit from))) refl refl)
       by (inl low) = (elim (eqb_tells (unpacked a).arena own.arena) [
-        | inl same ↦ subst G (sym (ap (λ (c : Bool). c && (a % arena_limit == y)) (lt-ltb a entering_mark low) ∙ alike (a % arena_limit) y (same.1 ∙ w.arena)))
+        | inl same ↦ subst G (sym (ap (λ (c : Bool). c && (a % arena_limit == y)) (lt-ltb a entering_bit low) ∙ alike (a % arena_limit) y (same.1 ∙ w.arena)))
             (searches_met s t false y searches (owning_port x.port (port_loaded a own)) (stays (meeting x.contention) (low_met low ∙ ap (λ (c : Bool). if c then meeting x.contention else x.contention) same.0)) refl refl)
-        | inr ne ↦ subst G (sym (ap (λ (c : Bool). c && (a % arena_limit == y)) (lt-ltb a entering_mark low) ∙ unlike (a % arena_limit) y (λ is. ne.1 (is ∙ sym w.arena))))
+        | inr ne ↦ subst G (sym (ap (λ (c : Bool). c && (a % arena_limit == y)) (lt-ltb a entering_bit low) ∙ unlike (a % arena_limit) y (λ is. ne.1 (is ∙ sym w.arena))))
             (searches_still s t false y searches (owning_port x.port (port_loaded a own)) (stays x.contention (low_met low ∙ ap (λ (c : Bool). if c then meeting x.contention else x.contention) ne.0)) refl refl)
       ])
 
 -- the exchange of its entering word m
-module _ (s t : Stand) (y q m a : ℕ) (w : MayPutPort s y q m) (from : entering_mark ≤ m) (told : PutsBy m (port_at s) a (port_at t)) where
+module _ (s t : Stand) (y q m a : ℕ) (w : MayPutPort s y q m) (from : entering_bit ≤ m) (told : PutsBy m (port_at s) a (port_at t)) where
   abbrev put : OwnedArena
   put = w.holds.owned
 
-  abbrev mark : Site
-  mark = unpacked (m - entering_mark)
+  abbrev entering_word : Site
+  entering_word = unpacked (m - entering_bit)
 
   abbrev met_then : Contention
-  met_then = contention_putting mark a put (port_at s).contention
+  met_then = contention_putting entering_word a put (port_at s).contention
 
-  put_is : port_at t ≡ record (becomes (port_at s) (port_at s).began (owning_port (port_at s).port (port_put mark a put))) { contention = met_then }
-  put_is = own_told (λ o. PutsPort o mark) (port_at s) a (port_at t) put w.holds.is told
+  put_is : port_at t ≡ record (becomes (port_at s) (port_at s).began (owning_port (port_at s).port (port_put entering_word a put))) { contention = met_then }
+  put_is = own_told (λ o. PutsPort o entering_word) (port_at s) a (port_at t) put w.holds.is told
 
-  named : marked mark ≡ m
+  named : entering_from entering_word ≡ m
   named = omega (arith, from)
 
-  put_as : port_put mark a put ≡ at_next_port put → HasSetWords t y (q + 1) 0
+  put_as : port_put entering_word a put ≡ at_next_port put → HasSetWords t y (q + 1) 0
   put_as same = works_then s t (at_next_port put) met_then (put_is ∙ ap (λ (o : OwnedArena). record (becomes (port_at s) (port_at s).began (owning_port (port_at s).port o)) { contention = met_then }) same) w.holds.stands
       y (q + 1) 0 w.holds.arena w.holds.looked (ap (λ n. n + 1) w.holds.clean) refl w.holds.set
 
@@ -246,39 +246,39 @@ module _ (s t : Stand) (y q m a : ℕ) (w : MayPutPort s y q m) (from : entering
   others c = if c then elsewhere a put else put
 
   pub put_won : a ≡ m → HasSetWords t y (q + 1) 0
-  put_won same = put_as (ap (λ (c : Bool). if c then at_next_port put else others (nat_lt a entering_mark)) (alike a (marked mark) (same ∙ sym named)))
+  put_won same = put_as (ap (λ (c : Bool). if c then at_next_port put else others (nat_lt a entering_bit)) (alike a (entering_from entering_word) (same ∙ sym named)))
 
-  pub put_away : a < entering_mark → a % arena_limit ≢ y → HasSetWords t y (q + 1) 0
-  put_away low ne = put_as (ap (λ (c : Bool). if c then at_next_port put else others (nat_lt a entering_mark)) (unlike a (marked mark) (λ same. absurd (omega (arith, same, low))))
-      ∙ ap others (lt-ltb a entering_mark low) ∙ ap (λ (c : Bool). if c then put else at_next_port put) (unlike (unpacked a).arena put.arena (λ same. ne (same ∙ w.holds.arena))))
+  pub put_away : a < entering_bit → a % arena_limit ≢ y → HasSetWords t y (q + 1) 0
+  put_away low ne = put_as (ap (λ (c : Bool). if c then at_next_port put else others (nat_lt a entering_bit)) (unlike a (entering_from entering_word) (λ same. absurd (omega (arith, same, low))))
+      ∙ ap others (lt-ltb a entering_bit low) ∙ ap (λ (c : Bool). if c then put else at_next_port put) (unlike (unpacked a).arena put.arena (λ same. ne (same ∙ w.holds.arena))))
 
   abbrev x : SeatedPort
   x = port_at s
 
-  put_stays : (m : Contention) → met_then ≡ m → port_at t ≡ record (becomes x x.began (owning_port x.port (port_put mark a put))) { contention = m }
-  put_stays m same = put_is ∙ ap (λ (m : Contention). record (becomes x x.began (owning_port x.port (port_put mark a put))) { contention = m }) same
+  put_stays : (m : Contention) → met_then ≡ m → port_at t ≡ record (becomes x x.began (owning_port x.port (port_put entering_word a put))) { contention = m }
+  put_stays m same = put_is ∙ ap (λ (m : Contention). record (becomes x x.began (owning_port x.port (port_put entering_word a put))) { contention = m }) same
 
   abbrev met_by : Bool → Contention
   met_by c = if c then contention_there a put x.contention else meeting x.contention
 
-  lost_met : a ≢ m → met_then ≡ met_by (nat_lt a entering_mark)
-  lost_met other = ap (λ (c : Bool). if c then x.contention else met_by (nat_lt a entering_mark)) (unlike a (marked mark) (λ same. other (same ∙ named)))
+  lost_met : a ≢ m → met_then ≡ met_by (nat_lt a entering_bit)
+  lost_met other = ap (λ (c : Bool). if c then x.contention else met_by (nat_lt a entering_bit)) (unlike a (entering_from entering_word) (λ same. other (same ∙ named)))
 
   -- the search goes on where the port is put, or is in another arena
-  pub put_clean : Searches false y s → (a ≡ m) ⊎ ((a < entering_mark) × (a % arena_limit ≢ y)) → SearchesOn false y s t
-  put_clean searches (inl same) = searches_still s t false y searches (owning_port x.port (port_put mark a put))
-      (put_stays x.contention (ap (λ (c : Bool). if c then x.contention else met_by (nat_lt a entering_mark)) (alike a (marked mark) (same ∙ sym named)))) refl refl
-  put_clean searches (inr away) = searches_still s t false y searches (owning_port x.port (port_put mark a put))
-      (put_stays x.contention (lost_met (λ same. (let low = away.0 in absurd (omega (arith, same, low)))) ∙ ap met_by (lt-ltb a entering_mark away.0)
+  pub put_clean : Searches false y s → (a ≡ m) ⊎ ((a < entering_bit) × (a % arena_limit ≢ y)) → SearchesOn false y s t
+  put_clean searches (inl same) = searches_still s t false y searches (owning_port x.port (port_put entering_word a put))
+      (put_stays x.contention (ap (λ (c : Bool). if c then x.contention else met_by (nat_lt a entering_bit)) (alike a (entering_from entering_word) (same ∙ sym named)))) refl refl
+  put_clean searches (inr away) = searches_still s t false y searches (owning_port x.port (port_put entering_word a put))
+      (put_stays x.contention (lost_met (λ same. (let low = away.0 in absurd (omega (arith, same, low)))) ∙ ap met_by (lt-ltb a entering_bit away.0)
       ∙ ap (λ (c : Bool). if c then meeting x.contention else x.contention) (unlike (unpacked a).arena put.arena (λ is. away.1 (is ∙ w.holds.arena))))) refl refl
 
   -- an exchange that finds another word, which isn't the site of another arena, meets a port there
-  pub put_meets : Searches false y s → a ≢ m → (a < entering_mark → a % arena_limit ≡ y) → SearchesOn true y s t
-  put_meets searches other there = searches_met s t false y searches (owning_port x.port (port_put mark a put)) (put_stays (meeting x.contention) (lost_met other ∙ by (cases_lt a entering_mark))) refl refl
+  pub put_meets : Searches false y s → a ≢ m → (a < entering_bit → a % arena_limit ≡ y) → SearchesOn true y s t
+  put_meets searches other there = searches_met s t false y searches (owning_port x.port (port_put entering_word a put)) (put_stays (meeting x.contention) (lost_met other ∙ by (cases_lt a entering_bit))) refl refl
     where
-      by : (a < entering_mark) ⊎ (entering_mark ≤ a) → met_by (nat_lt a entering_mark) ≡ meeting x.contention
-      by (inl low) = ap met_by (lt-ltb a entering_mark low) ∙ ap (λ (c : Bool). if c then meeting x.contention else x.contention) (alike (unpacked a).arena put.arena (there low ∙ sym w.holds.arena))
-      by (inr from) = ap met_by (not_below a entering_mark from)
+      by : (a < entering_bit) ⊎ (entering_bit ≤ a) → met_by (nat_lt a entering_bit) ≡ meeting x.contention
+      by (inl low) = ap met_by (lt-ltb a entering_bit low) ∙ ap (λ (c : Bool). if c then meeting x.contention else x.contention) (alike (unpacked a).arena put.arena (there low ∙ sym w.holds.arena))
+      by (inr from) = ap met_by (not_below a entering_bit from)
 
 -- after the last value come the carried stamps
 pub after_last : (z : Layout) (n : ℕ) → z.m ≤ n → after_values z n ≡ first_free z + 0

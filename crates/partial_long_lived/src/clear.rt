@@ -6,7 +6,7 @@ ghost use Rattle.partial_long_lived.specs.Inner.Changing.{HasCleared, HasLoadedP
 
 use crate::change_plays::{LoadPort, Put};
 use crate::claim::Claimed;
-use crate::enter::{ARENAS, MARK, look};
+use crate::enter::{ARENAS, ENTERING_BIT, look};
 use crate::rule::Words;
 use crate::stand::Stand;
 
@@ -47,7 +47,7 @@ fn clear_port(words: &Words, stand: &mut Stand, arena: u32, port: u32) -> Claime
     ensures steps { stand.new.seat.steps ≤ stand.old.seat.steps + 3 }
 {
     let found = load_port(words, stand, arena, port);
-    if found < MARK {
+    if found < ENTERING_BIT {
         return if found % ARENAS == u64::from(arena) {
             Claimed::Taken
         } else {
@@ -77,11 +77,11 @@ fn load_port(words: &Words, stand: &mut Stand, arena: u32, port: u32) -> u64
 }
 
 // Puts the next port, of which the owner has loaded the entering word, where the owner stands.
-fn put_port(words: &Words, stand: &mut Stand, arena: u32, port: u32, mark: u64) -> Claimed
+fn put_port(words: &Words, stand: &mut Stand, arena: u32, port: u32, entering_word: u64) -> Claimed
     requires held { IsHeld words.now.table_id words.now.key stand.old }
-    requires may { MayPutPort stand.old arena port mark }
+    requires may { MayPutPort stand.old arena port entering_word }
     requires searches { Searches false arena stand.old }
-    requires marked { 9223372036854775808 ≤ mark }
+    requires entering_from { 9223372036854775808 ≤ entering_word }
     requires inside { port < words.now.key.ports }
     ensures held { IsHeld words.now.table_id words.now.key stand.new }
     ensures remains { Remains stand.old stand.new }
@@ -90,11 +90,16 @@ fn put_port(words: &Words, stand: &mut Stand, arena: u32, port: u32, mark: u64) 
     ensures steps { stand.new.seat.steps ≤ stand.old.seat.steps + 1 }
 {
     let here = stand.packed();
-    let found = words.compare_exchange::<Put>(&mut stand.seat, 1 + port as usize, mark, here);
-    if found == mark {
+    let found = words.compare_exchange::<Put>(
+        &mut stand.seat,
+        1 + port as usize,
+        entering_word,
+        here,
+    );
+    if found == entering_word {
         return Claimed::Clean(arena);
     }
-    if found < MARK && found % ARENAS != u64::from(arena) {
+    if found < ENTERING_BIT && found % ARENAS != u64::from(arena) {
         return Claimed::Clean(arena);
     }
     Claimed::Taken

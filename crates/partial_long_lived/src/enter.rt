@@ -5,12 +5,12 @@ ghost use Rattle.partial_epochs.specs.Layout.{packed};
 ghost use Rattle.partial_long_lived.specs.Inner.Held.{IsHeld};
 ghost use Rattle.partial_long_lived.specs.Inner.Calls.{StaysAt, LookFound, MayLook, EpochEntered, MayEnter};
 
-use crate::plays::{Arrive, FirstLook, LoadCurrent, Look, Mark};
+use crate::plays::{Arrive, FirstLook, LoadCurrent, Look, StoreEnteringWord};
 use crate::rule::Words;
 use crate::stand::Stand;
 
 /// The highest bit of a word: the port is entering from the site that the word names.
-pub const MARK: u64 = 1 << 63;
+pub const ENTERING_BIT: u64 = 1 << 63;
 
 /// One and the greatest number of an arena.
 pub const ARENAS: u64 = 1 << 16;
@@ -61,12 +61,16 @@ pub fn enter(words: &Words, stand: &mut Stand)
     ensures entered { EpochEntered stand.old stand.new }
     ensures steps { stand.new.seat.steps ≤ stand.old.seat.steps + 3 }
 {
-    let mark = MARK + stand.packed();
+    let entering_word = ENTERING_BIT + stand.packed();
     let at = 1 + stand.number as usize;
-    words.store::<Mark>(&mut stand.seat, at, mark);
+    words.store::<StoreEnteringWord>(&mut stand.seat, at, entering_word);
     let current = words.load::<LoadCurrent>(&mut stand.seat, 0);
-    let found = words.compare_exchange::<Arrive>(&mut stand.seat, at, mark, current);
-    let site = if found == mark { current } else { found };
+    let found = words.compare_exchange::<Arrive>(&mut stand.seat, at, entering_word, current);
+    let site = if found == entering_word {
+        current
+    } else {
+        found
+    };
     stand.epoch = site / ARENAS;
     stand.arena = (site % ARENAS) as u32;
     stand.base = stand.shape.base(stand.arena);

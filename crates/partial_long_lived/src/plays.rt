@@ -27,13 +27,13 @@ impl Play<(), View> for FirstLook {
 }
 
 /// The store of the entering word.
-pub struct Mark;
+pub struct StoreEnteringWord;
 
-impl Play<(), View> for Mark {
+impl Play<(), View> for StoreEnteringWord {
     ghost use Rattle.partial_long_lived.specs.Inner.Steps.{tells};
-    ghost use Rattle.partial_long_lived.specs.Inner.Moves.{StoresMark};
+    ghost use Rattle.partial_long_lived.specs.Inner.Moves.{StoresEnteringWord};
 
-    ghost then = { λ _. tells StoresMark };
+    ghost then = { λ _. tells StoresEnteringWord };
 }
 
 /// The load of the current site into which a port enters.

@@ -409,14 +409,14 @@ begun_of_call s ScanBegun c e = let same : Call.Scan s.asked ≡ c = cc in subst
 begun_of_call s _ c e = absurd cc
 
 -- a load of a word after those of the components
-abbrev IsBehind : Layout → Option Step → Type 0
-IsBehind z (Some (Load v)) = z.m ≤ v
-IsBehind z _ = ⊤
+abbrev IsAfterAnswer : Layout → Option Step → Type 0
+IsAfterAnswer z (Some (Load v)) = z.m ≤ v
+IsAfterAnswer z _ = ⊤
 
-behind_load : {P : Type 0} (z : Layout) (f : Option Step) (v : ℕ) → IsBehind z f → f ≡ Some (Load v) → v < z.m → P
-behind_load z f v w is below = let above : z.m ≤ v = subst (IsBehind z) is w in absurd (omega (arith, above, below))
+behind_load : {P : Type 0} (z : Layout) (f : Option Step) (v : ℕ) → IsAfterAnswer z f → f ≡ Some (Load v) → v < z.m → P
+behind_load z f v w is below = let above : z.m ≤ v = subst (IsAfterAnswer z) is w in absurd (omega (arith, above, below))
 
-set_loads : (z : Layout) (head : ℕ) (u : SetStage) → is_behind z u → IsBehind z (finding.set_step_at z head u)
+set_loads : (z : Layout) (head : ℕ) (u : SetStage) → is_behind z u → IsAfterAnswer z (finding.set_step_at z head u)
 set_loads z head set.Head w = omega arith
 set_loads z head (set.ListLen at) w = w
 set_loads z head (set.ListLow at left) w = w
@@ -430,13 +430,13 @@ set_loads z head (set.Write at k words word) w = tt
 set_loads z head (set.Publish at) w = tt
 set_loads z head set.Done w = tt
 
-join_loads : (z y : Layout) (announcement : ℕ) (u : JoinStage) → IsBehind z (join_step y announcement u)
+join_loads : (z y : Layout) (announcement : ℕ) (u : JoinStage) → IsAfterAnswer z (join_step y announcement u)
 join_loads z y announcement Claiming = tt
 join_loads z y announcement (Storing slot) = tt
 join_loads z y announcement (Joined slot) = tt
 join_loads z y announcement Spent = tt
 
-leave_loads : (z y : Layout) (slot : ℕ) (b : Bool) → IsBehind z (if b then None else Some (Store (slot_word y slot) 1))
+leave_loads : (z y : Layout) (slot : ℕ) (b : Bool) → IsAfterAnswer z (if b then None else Some (Store (slot_word y slot) 1))
 leave_loads z y slot true = tt
 leave_loads z y slot false = tt
 
@@ -462,8 +462,8 @@ module _ (t : CoreState) (w : IsSound t) (xs : List ℕ) (v : ℕ) (below : v < 
   update_loads j (UpdateBegun c) e h k is = let same : c.component ≡ v = cc in inl (sym same ∙ h)
   update_loads j (GettingSet c old) e h k is =
       let sizes = (there (GettingSet c old) e).2 in
-      let behind : IsBehind t.sizes (finding.set_step_at t.get_set.sizes t.get_set.head t.get_set.stage) =
-      subst (λ (y : Layout). IsBehind t.sizes (finding.set_step_at y t.get_set.head t.get_set.stage)) (sym sizes) (set_loads t.sizes t.get_set.head t.get_set.stage k) in
+      let behind : IsAfterAnswer t.sizes (finding.set_step_at t.get_set.sizes t.get_set.head t.get_set.stage) =
+      subst (λ (y : Layout). IsAfterAnswer t.sizes (finding.set_step_at y t.get_set.head t.get_set.stage)) (sym sizes) (set_loads t.sizes t.get_set.head t.get_set.stage k) in
       behind_load t.sizes (step_at t (GettingSet c old)) v behind is below
   update_loads j (Viewing c old) e h k is = inr (positioned true t.found.indices k is)
   update_loads j (ClaimingRecord c old) e h k is = record_step_cases t old (λ (u : Step). Some u ≡ Some (Load v) → (v ≡ j) ⊎ runs.IsOfPosition t.found.indices v) (λ _ bad. cc) (λ _ bad. cc) is

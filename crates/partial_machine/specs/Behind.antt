@@ -57,7 +57,7 @@ refuses_slots (Some (Reply.Refused Refused.SlotsSpent)) = true
 refuses_slots _ = false
 
 -- what is known of the machine after a possible answer
-pub record IsBehind (s : CoreState) (x : ℕ) : Type 0 where
+pub record IsAfterAnswer (s : CoreState) (x : ℕ) : Type 0 where
   -- it is sound, with the same sizes, port and positions, and as many words ahead
   pub sound : IsSound (advance s x)
   pub sizes : (advance s x).sizes ≡ s.sizes
@@ -80,7 +80,7 @@ pub record IsBehind (s : CoreState) (x : ℕ) : Type 0 where
 
 -- over a possible answer a sound machine leads on
 abbrev pub AnswersLeadOn : Type 0
-AnswersLeadOn = (s : CoreState) (x : ℕ) → IsLayout s.sizes → IsSound s → IsPossible s x → IsBehind s x
+AnswersLeadOn = (s : CoreState) (x : ℕ) → IsLayout s.sizes → IsSound s → IsPossible s x → IsAfterAnswer s x
 
 -- the word of a step that is due is one of the words
 abbrev pub DueWordsAreThere : Type 0

@@ -1,10 +1,10 @@
 -- The steps of a call, one after the other.
-use Rattle.partial_memory.proofs.Common.{ℕ, ◌≡◌, ◌+◌, ◌<◌, ◌++◌, ◌⊎◌, ◌||◌, Bool, true, false, if◌then◌else◌, Some, None, List, [], ◌∷◌, length, sym, ap, subst, ◌∙◌, inl, inr, arith, length_push, Step, Layout, IsLayout, total, word_of, CoreState, advance, step_of, reply_of, is_begun, refuses_pool, refuses_slots, due_is_unreplied, due_words_are_there, Part, KeptAnswer, HasBegun, IsMachineOf, Tells, first_steps_make_calls, further_steps_make_calls, About, SeatedPort, AreByOpened, Told, Begins, CallMade, CountsOn, HasCounted}
+use Rattle.partial_memory.proofs.Common.{ℕ, ◌≡◌, ◌+◌, ◌<◌, ◌++◌, ◌⊎◌, ◌||◌, Bool, true, false, if◌then◌else◌, Some, None, List, [], ◌∷◌, length, sym, ap, subst, ◌∙◌, inl, inr, arith, length_push, Step, Layout, IsLayout, total, word_of, CoreState, advance, step_of, reply_of, is_begun, refuses_pool, refuses_slots, due_is_unreplied, due_words_are_there, Part, KeptAnswer, HasBegun, IsMachineOf, StepShows, first_steps_make_calls, further_steps_make_calls, About, SeatedPort, AreByOpened, SeatShows, Begins, CallMade, CountsOn, HasCounted}
 
 -- the machine that a step leads to, and its port
-module _ (x : SeatedPort) (c : CoreState) (y : SeatedPort) (a : ℕ) (z : SeatedPort) (about : y.about ≡ x.about) (t : Told c y a z) where
+module _ (x : SeatedPort) (c : CoreState) (y : SeatedPort) (a : ℕ) (z : SeatedPort) (about : y.about ≡ x.about) (t : SeatShows c y a z) where
   abbrev TellsFor : About → Type 0
-  TellsFor o = Tells o.sizes o.opening t.log t.entries y.part c a z.part
+  TellsFor o = StepShows o.sizes o.opening t.log t.entries y.part c a z.part
 
   tells_here : TellsFor x.about
   tells_here = subst TellsFor about t.tells
@@ -13,7 +13,7 @@ module _ (x : SeatedPort) (c : CoreState) (y : SeatedPort) (a : ℕ) (z : Seated
   others_here = subst (λ (o : About). AreByOpened o z.part.seen) about t.others
 
 -- the first step
-first_made : (b : CoreState) (x : SeatedPort) (a : ℕ) (z : SeatedPort) → Begins b x → Told b x a z → CallMade b x (advance b a) z
+first_made : (b : CoreState) (x : SeatedPort) (a : ℕ) (z : SeatedPort) → Begins b x → SeatShows b x a z → CallMade b x (advance b a) z
 first_made b x a z w t =
     let m = first_steps_make_calls x.about.sizes x.about.opening t.log t.entries b x.part a z.part w.begun w.sound t.tells in
     record {
@@ -25,7 +25,7 @@ first_made b x a z w t =
     }
 
 -- a further step
-next_made : (b : CoreState) (x : SeatedPort) (c : CoreState) (y : SeatedPort) (a : ℕ) (z : SeatedPort) → CallMade b x c y → reply_of c ≡ None → Told c y a z →
+next_made : (b : CoreState) (x : SeatedPort) (c : CoreState) (y : SeatedPort) (a : ℕ) (z : SeatedPort) → CallMade b x c y → reply_of c ≡ None → SeatShows c y a z →
     CallMade b x (advance c a) z
 next_made b x c y a z m none t =
     record {
@@ -37,15 +37,15 @@ next_made b x c y a z m none t =
     }
 
 -- the answer of a step is kept, after those of the call before it
-kept_then : (c : CoreState) (y : SeatedPort) (a : ℕ) (z : SeatedPort) (began : Bool) → is_begun c.stage ≡ began → (t : Told c y a z) →
+kept_then : (c : CoreState) (y : SeatedPort) (a : ℕ) (z : SeatedPort) (began : Bool) → is_begun c.stage ≡ began → (t : SeatShows c y a z) →
     z.part.kept ≡ (if began then [] else y.part.kept) ++ record { answer = a; at = length (t.log ++ t.entries) } ∷ []
 kept_then c y a z began is t = ap (λ (v : Part). v.kept) t.tells.part ∙ ap (λ f. (if f then [] else y.part.kept) ++ record { answer = a; at = length (t.log ++ t.entries) } ∷ []) is
 
 -- and a seat that has made one step more has counted it
-pub first_counted : (b : CoreState) (x : SeatedPort) (a : ℕ) (z : SeatedPort) → Begins b x → Told b x a z → (n m : ℕ) → m ≡ n + 1 → HasCounted n z m
+pub first_counted : (b : CoreState) (x : SeatedPort) (a : ℕ) (z : SeatedPort) → Begins b x → SeatShows b x a z → (n m : ℕ) → m ≡ n + 1 → HasCounted n z m
 first_counted b x a z w t n m more = more ∙ ap (λ (ks : List KeptAnswer). n + length ks) (sym (kept_then b x a z true w.begun.begun t))
 
-pub next_counted : (c : CoreState) (y : SeatedPort) (a : ℕ) (z : SeatedPort) → is_begun c.stage ≡ false → Told c y a z → (n m : ℕ) → m ≡ n + 1 → CountsOn n y m z
+pub next_counted : (c : CoreState) (y : SeatedPort) (a : ℕ) (z : SeatedPort) → is_begun c.stage ≡ false → SeatShows c y a z → (n m : ℕ) → m ≡ n + 1 → CountsOn n y m z
 next_counted c y a z going t n m more k before =
     let count : length z.part.kept ≡ length y.part.kept + 1 = ap length (kept_then c y a z false going t) ∙ length_push y.part.kept _ in
     omega (arith, more, before, count)
@@ -55,9 +55,9 @@ abbrev pub Runs : CoreState → SeatedPort → CoreState → SeatedPort → Type
 Runs b x c y = ((c ≡ b) × (y ≡ x)) ⊎ CallMade b x c y
 
 pub runs_on : (b : CoreState) (x : SeatedPort) (c : CoreState) (y : SeatedPort) (a : ℕ) (z : SeatedPort) (s : Step) → Begins b x → Runs b x c y → step_of c ≡ Some s →
-    Told c y a z → CallMade b x (advance c a) z
+    SeatShows c y a z → CallMade b x (advance c a) z
 runs_on b x c y a z s begins (inl w) due t =
-    let told : Told b x a z = subst (λ (d : CoreState). Told d x a z) w.0 (subst (λ (v : SeatedPort). Told c v a z) w.1 t) in
+    let told : SeatShows b x a z = subst (λ (d : CoreState). SeatShows d x a z) w.0 (subst (λ (v : SeatedPort). SeatShows c v a z) w.1 t) in
     subst (λ (d : CoreState). CallMade b x (advance d a) z) (sym w.0) (first_made b x a z begins told)
 runs_on b x c y a z s begins (inr m) due t = next_made b x c y a z m (due_is_unreplied c s due) t
 

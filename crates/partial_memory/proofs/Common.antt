@@ -17,10 +17,10 @@ pub use Rattle.partial_machine.specs.declared.stage.Reply.{Reply}
 pub use Rattle.partial_machine.specs.declared.stage.Stage.TheVariants.{Finished, ReadBegun, ScanBegun, Exchanging, UpdateBegun}
 pub use Rattle.partial_machine.specs.{Behind.{refuses_pool, refuses_slots, IsOldMark, IsRefusedBy}, Calls.{is_begun, refusal_of, answer_for, begin_scan, begun_of, call_of, core_scan_refusal, core_update_refusal, IsServed, makes_steps}, Lines.{scan_asked, asking_machine}, Machine.{CoreState, advance, step_of, reply_of, fresh, scanned_values, at_stage, advance_at}}
 pub use Rattle.partial_machine.proofs.{Behind.run_sizes, Laws.{due_is_unreplied, due_words_are_there, calls_are_refused_at_once, calls_claim_once, calls_begin}}
-pub use Rattle.partial_core.specs.{Lawful.Lawful, Part.{Part, KeptAnswer, HasBegun, IsMachineOf, answers_of, port_of, with_seen, fresh_parts, IsMarkedLike, core_of}, Ports.RecordsAreWithin, Steps.{Tells, FitsHistory, AreNotesOf, IsNoteOf, IsPlacedAt, IsRefusal, LeadsOn, added_by}}
+pub use Rattle.partial_core.specs.{Lawful.Lawful, Part.{Part, KeptAnswer, HasBegun, IsMachineOf, answers_of, port_of, with_seen, fresh_parts, IsMarkedLike, core_of}, Ports.RecordsAreWithin, Steps.{StepShows, FitsHistory, AreNotesOf, IsNoteOf, IsPlacedAt, IsRefusal, LeadsOn, added_by}}
 pub use Rattle.partial_core.proofs.Laws.{first_steps_make_calls, further_steps_make_calls, lawful_ports_fit, lawful_records_are_within, looks_stay_lawful, opens_lawful, ports_come_between, made_calls_make_their_steps, calls_begin_between, steps_stay_lawful, lawful_machines_are_ready}
 pub use Rattle.partial_lines.specs.Replies.{scan_reply, RestsLike}
 pub use Rattle.partial_memory.specs.declared.closed.Closed.{Closed}
 pub use Rattle.partial_memory.specs.declared.rule.About.{About}
-pub use Rattle.partial_memory.specs.{Calls.{Meets, Updates, UpdatesIf, met_port, meeting_steps, Reads, Scans}, Closing.{Closes, IsPortOf, IsWholeChain, AreValues, AreChains, AreChainsFrom}, Lawfulness.{ClosesLawfully, MeetsLawfully}, Led.{BeganAs, HasMark, IsLed, IsLedToAnswer, IsLedToRefusal, IsLedWhereLate, LateRefusalsArePastEnd, LedCallsClaimOnce, RefusalsAtOnceFit, ScanIsLed, ScansLed}, Ports.{IsOf, MemoryView, PortView, new_ports, port_view, without_steps, IsResting, Knows, Answered, Goes, IsRefused, refusal, CountsSteps, IsPastEnd, RefusedLate, is_pool, is_slots}, Reopening.{extended_values, ClosedMemoriesContinue, with_zeros}, Rule.{IsShuffle, newcomers, SeatedPort, AreByOpened, Told, AreSeatedOf, IsIn, IsRuleKept, IsLawfulWith, parts_of, AreOpened, having_met, looks, one_in, newcomer, IsBadgeOfOne, IsOne, makes, one_of}}
+pub use Rattle.partial_memory.specs.{Calls.{Meets, Updates, UpdatesIf, met_port, meeting_steps, Reads, Scans}, Closing.{Closes, IsPortOf, IsWholeChain, AreValues, AreChains, AreChainsFrom}, Lawfulness.{ClosesLawfully, MeetsLawfully}, Led.{BeganAs, HasMark, IsLed, IsLedToAnswer, IsLedToRefusal, IsLedWhereLate, LateRefusalsArePastEnd, LedCallsClaimOnce, RefusalsAtOnceFit, ScanIsLed, ScansLed}, Ports.{IsOf, MemoryView, PortView, new_ports, port_view, without_steps, IsResting, Knows, Answered, Goes, IsRefused, refusal, CountsSteps, IsPastEnd, RefusedLate, is_pool, is_slots}, Reopening.{extended_values, ClosedMemoriesContinue, with_zeros}, Rule.{IsShuffle, newcomers, SeatedPort, AreByOpened, SeatShows, AreSeatedOf, IsIn, IsRuleKept, IsLawfulWith, parts_of, AreOpened, having_met, looks, one_in, newcomer, IsBadgeOfOne, IsOne, makes, one_of}}
 pub use Rattle.partial_memory.specs.Inner.{Endings.{ending_reply, asked_change}, Lines.{IsGoing, IsUnderWay, ComesTo, CountsOn, machine_of}, Steps.{Begins, CallMade, CallEnded, HasCounted}}

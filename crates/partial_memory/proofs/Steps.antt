@@ -1,5 +1,5 @@
 -- Each step that is due is allowed: whatever the table is then, the words and the ports of all seats stay those of a lawful state.
-use Rattle.partial_memory.proofs.{Common.{around, ℕ, zero, suc, ◌≡◌, ◌+◌, ◌<◌, ◌==◌, ◌%◌, ◌^◌, ◌++◌, Bool, true, false, if◌then◌else◌, Some, List, [], ◌∷◌, map, slice_index, slice_set, refl, sym, ap, subst, ◌∙◌, arith, AllByRecursion, some, get_elem?, Me, keeps, Allows, Applied, Step, Load, Store, Exchange, Add, word_of, answer_of, words_after, CoreState, step_of, all_at, all_join, all_before, all_after, Part, IsMachineOf, port_of, Lawful, LeadsOn, added_by, steps_stay_lawful, lawful_ports_fit, lawful_machines_are_ready, About, SeatedPort, AreOpened, AreByOpened, Told, IsRuleKept, IsShuffle, IsOne, one_of, parts_of, makes, Contains, set-get_or}, Shuffles.find}
+use Rattle.partial_memory.proofs.{Common.{around, ℕ, zero, suc, ◌≡◌, ◌+◌, ◌<◌, ◌==◌, ◌%◌, ◌^◌, ◌++◌, Bool, true, false, if◌then◌else◌, Some, List, [], ◌∷◌, map, slice_index, slice_set, refl, sym, ap, subst, ◌∙◌, arith, AllByRecursion, some, get_elem?, Me, keeps, Allows, Applied, Step, Load, Store, Exchange, Add, word_of, answer_of, words_after, CoreState, step_of, all_at, all_join, all_before, all_after, Part, IsMachineOf, port_of, Lawful, LeadsOn, added_by, steps_stay_lawful, lawful_ports_fit, lawful_machines_are_ready, About, SeatedPort, AreOpened, AreByOpened, SeatShows, IsRuleKept, IsShuffle, IsOne, one_of, parts_of, makes, Contains, set-get_or}, Shuffles.find}
 use prog.Atomic.{either}
 use Rattle.partial_core.specs.{Lawful.LawfulAmong, Part.PartAmong}
 
@@ -10,11 +10,11 @@ change_of (Store w v) n = v
 change_of (Exchange w old new) n = either (n == old) new n
 change_of (Add w k) n = (n + k) % 2 ^ 64
 
-abbrev pub told_of : Step → ℕ → ℕ
-told_of (Load w) n = n
-told_of (Store w v) n = 0
-told_of (Exchange w old new) n = n
-told_of (Add w k) n = n
+abbrev pub answer_found : Step → ℕ → ℕ
+answer_found (Load w) n = n
+answer_found (Store w v) n = 0
+answer_found (Exchange w old new) n = n
+answer_found (Add w k) n = n
 
 -- the parts before, here and after
 pub parts_split : (before : List SeatedPort) (x : SeatedPort) (after : List SeatedPort) → parts_of (before ++ x ∷ after) ≡ parts_of before ++ x.part ∷ parts_of after
@@ -36,7 +36,7 @@ words_then words (Store w v) = refl
 words_then words (Exchange w old new) = ap (slice_set words w) (sym (either_cond (slice_index words w == old) new (slice_index words w)))
 words_then words (Add w k) = refl
 
-told_then : (words : List ℕ) (s : Step) → answer_of words s ≡ told_of s (slice_index words (word_of s))
+told_then : (words : List ℕ) (s : Step) → answer_of words s ≡ answer_found s (slice_index words (word_of s))
 told_then words (Load w) = refl
 told_then words (Store w v) = refl
 told_then words (Exchange w old new) = refl
@@ -80,7 +80,7 @@ module _ (words : List ℕ) (before : List SeatedPort) (x : SeatedPort) (after :
   pub lawful_then : Lawful x.about.sizes x.about.opening (words_after words s) (parts_of (before ++ next ∷ after)) longer
   lawful_then = subst (λ l. Lawful x.about.sizes x.about.opening (words_after words s) l longer) (sym (parts_split before next after)) leads.lawful
 
-  pub told_here : Told c x (answer_of words s) next
+  pub told_here : SeatShows c x (answer_of words s) next
   told_here =
       let ready = lawful_machines_are_ready x.about.sizes x.about.opening (among words before x after log) c lawful_here machine in
       let fit = lawful_ports_fit x.about.sizes x.about.opening (words_after words s) (parts_of (before ++ next ∷ after)) longer lawful_then in
@@ -96,7 +96,7 @@ module _ (words : List ℕ) (before : List SeatedPort) (x : SeatedPort) (after :
 
 -- the step can be made, and keeps the rule
 step_kept : {S : Type 0} (slots id : ℕ) (me : Me S (List SeatedPort)) (c : CoreState) (s : Step) → IsOne me → IsMachineOf c (one_of me.0).part →
-    step_of c ≡ Some s → Allows (IsRuleKept (one_of me.0).about) slots id me (word_of s) (change_of s) (λ n. makes c me (told_of s n))
+    step_of c ≡ Some s → Allows (IsRuleKept (one_of me.0).about) slots id me (word_of s) (change_of s) (λ n. makes c me (answer_found s n))
 step_kept {S} slots id me c s one machine due table kept homes at small =
     let x : SeatedPort = one_of me.0 in
     let r = around table.views id (x ∷ []) (subst (λ v. get_elem? table.views id ≡ some v) one.0 at) in
@@ -117,16 +117,16 @@ step_kept {S} slots id me c s one machine due table kept homes at small =
             (lawful_then table.words f.before x f.after kept.log c s w opened machine due);
         opened = opened_then table.words f.before x f.after kept.log c s w opened machine due;
       },
-      ((refl, one.1), subst (λ a. Told c x a y) (told_then table.words s) (told_here table.words f.before x f.after kept.log c s w opened machine due)),
+      ((refl, one.1), subst (λ a. SeatShows c x a y) (told_then table.words s) (told_here table.words f.before x f.after kept.log c s w opened machine due)),
     )
 
 -- the same at a call, where the step is one of the four kinds
 pub step_asked : {S : Type 0} (about : About) (slots count id : ℕ) (me : Me S (List SeatedPort)) (c d : CoreState) (t s : Step) →
     word_of t < count → IsOne me → (one_of me.0).about ≡ about → c ≡ d → IsMachineOf c (one_of me.0).part × (step_of c ≡ Some t) → t ≡ s →
-    (word_of s < count) × Allows (IsRuleKept about) slots id me (word_of s) (change_of s) (λ n. makes d me (told_of s n))
+    (word_of s < count) × Allows (IsRuleKept about) slots id me (word_of s) (change_of s) (λ n. makes d me (answer_found s n))
 step_asked about slots count id me c d t s within one own same due is =
     let step : step_of c ≡ Some s = due.1 ∙ ap Some is in
     let due' : IsMachineOf d (one_of me.0).part × (step_of d ≡ Some s) = subst (λ (z : CoreState). IsMachineOf z (one_of me.0).part × (step_of z ≡ Some s)) same (due.0, step) in (
       subst (λ u. word_of u < count) is within,
-      subst (λ (a : About). Allows (IsRuleKept a) slots id me (word_of s) (change_of s) (λ n. makes d me (told_of s n))) own (step_kept slots id me d s one due'.0 due'.1),
+      subst (λ (a : About). Allows (IsRuleKept a) slots id me (word_of s) (change_of s) (λ n. makes d me (answer_found s n))) own (step_kept slots id me d s one due'.0 due'.1),
     )

@@ -1,5 +1,5 @@
 -- Calls in straight lines: each step is allowed, and leads the call on.
-use Rattle.partial_memory.proofs.{Common.{ℕ, ◌≡◌, ◌<◌, Some, List, refl, sym, subst, ◌∙◌, inl, inr, Me, Allows, TableId, Step, total, word_of, CoreState, advance, step_of, IsMachineOf, core_of, About, SeatedPort, IsRuleKept, IsOne, Told, makes, one_of, ◌+◌, Begins, CallMade, IsGoing, IsUnderWay, ComesTo, CountsOn, HasCounted, machine_of}, Calls.{first_counted, next_counted, runs_machine, runs_on, runs_within}, Steps.{step_asked, change_of, told_of}}
+use Rattle.partial_memory.proofs.{Common.{ℕ, ◌≡◌, ◌<◌, Some, List, refl, sym, subst, ◌∙◌, inl, inr, Me, Allows, TableId, Step, total, word_of, CoreState, advance, step_of, IsMachineOf, core_of, About, SeatedPort, IsRuleKept, IsOne, SeatShows, makes, one_of, ◌+◌, Begins, CallMade, IsGoing, IsUnderWay, ComesTo, CountsOn, HasCounted, machine_of}, Calls.{first_counted, next_counted, runs_machine, runs_on, runs_within}, Steps.{step_asked, change_of, answer_found}}
 
 -- a call in its middle at the port x, whose next step is answered
 module _ (x : SeatedPort) (under : IsUnderWay x) (s : Step) (due : step_of (core_of x.part) ≡ Some s) where
@@ -9,7 +9,7 @@ module _ (x : SeatedPort) (under : IsUnderWay x) (s : Step) (due : step_of (core
   next_within : word_of s < total x.about.sizes
   next_within = let m = under.3 in subst (λ (o : About). word_of s < total o.sizes) (sym m.about) (runs_within under.0 under.1 (core_of x.part) x s under.2 (inr m) due)
 
-  module _ (a : ℕ) (y : SeatedPort) (told : Told (core_of x.part) x a y) where
+  module _ (a : ℕ) (y : SeatedPort) (told : SeatShows (core_of x.part) x a y) where
     pub next_is : core_of y.part ≡ advance (core_of x.part) a
     next_is = sym told.tells.machine.is
 
@@ -24,14 +24,14 @@ module _ (x : SeatedPort) (under : IsUnderWay x) (s : Step) (due : step_of (core
 
 -- a further step is allowed, and leaves its seat going
 module _ {S : Type 0} (table : TableId) (about : About) (here : TableId) (me : Me S (List SeatedPort)) (w : IsGoing table about here me) (s : Step) (due : step_of (machine_of me) ≡ Some s) where
-  pub next_asked : (slots id : ℕ) → (word_of s < table.words) × Allows (IsRuleKept about) slots id me (word_of s) (change_of s) (λ n. makes (machine_of me) me (told_of s n))
+  pub next_asked : (slots id : ℕ) → (word_of s < table.words) × Allows (IsRuleKept about) slots id me (word_of s) (change_of s) (λ n. makes (machine_of me) me (answer_found s n))
   next_asked slots id =
       let x = one_of me.0 in
       let c = machine_of me in
       let within : word_of s < table.words = subst (λ n. word_of s < n) (sym w.words) (subst (λ (o : About). word_of s < total o.sizes) w.own (next_within x w.under s due)) in
       step_asked about slots table.words id me c c s s within w.one w.own refl (next_machine x w.under s due, due) refl
 
-  pub next_going : {R : Type 0} (there : TableId) (a : ℕ) (me' : Me R (List SeatedPort)) → there ≡ here → IsOne me' → Told (machine_of me) (one_of me.0) a (one_of me'.0) →
+  pub next_going : {R : Type 0} (there : TableId) (a : ℕ) (me' : Me R (List SeatedPort)) → there ≡ here → IsOne me' → SeatShows (machine_of me) (one_of me.0) a (one_of me'.0) →
       IsGoing table about there me'
   next_going there a me' same one told = record {
     fits = same ∙ w.fits;
@@ -42,7 +42,7 @@ module _ {S : Type 0} (table : TableId) (about : About) (here : TableId) (me : M
   }
 
 -- the first step
-module _ (b : CoreState) (x : SeatedPort) (begins : Begins b x) (s : Step) (due : step_of b ≡ Some s) (a : ℕ) (y : SeatedPort) (told : Told b x a y) where
+module _ (b : CoreState) (x : SeatedPort) (begins : Begins b x) (s : Step) (due : step_of b ≡ Some s) (a : ℕ) (y : SeatedPort) (told : SeatShows b x a y) where
   pub first_is : core_of y.part ≡ advance b a
   first_is = sym told.tells.machine.is
 

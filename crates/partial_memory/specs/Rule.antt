@@ -8,7 +8,7 @@ use Rattle.partial_machine.specs.Machine.{CoreState}
 use Rattle.partial_machine.specs.Sound.{IsSound}
 use Rattle.partial_core.specs.Part.{Part, core_of, port_of, fresh_part, with_seen}
 use Rattle.partial_core.specs.Lawful.{Lawful}
-use Rattle.partial_core.specs.Steps.{FitsHistory, Tells}
+use Rattle.partial_core.specs.Steps.{FitsHistory, StepShows}
 use Rattle.partial_memory.specs.declared.rule.About.{About}
 
 -- what a seat knows of a port: the memory that it belongs to, and the port's part of the lawful state
@@ -73,17 +73,17 @@ abbrev pub AreByOpened : About → List Applied → Type 0
 AreByOpened about h = AllByRecursion (λ e. e.port < about.ports) h
 
 -- what a seat learns by a step of the machine c: what its port learns by the law of steps, and that each entry is by a port that was opened
-pub record Told (c : CoreState) (x : SeatedPort) (a : ℕ) (y : SeatedPort) : Type 0 where
+pub record SeatShows (c : CoreState) (x : SeatedPort) (a : ℕ) (y : SeatedPort) : Type 0 where
   pub about : y.about ≡ x.about
   pub sound : IsSound c
   pub log : List Applied
   pub entries : List Applied
-  pub tells : Tells x.about.sizes x.about.opening log entries x.part c a y.part
+  pub tells : StepShows x.about.sizes x.about.opening log entries x.part c a y.part
   pub others : AreByOpened x.about y.part.seen
 
 -- the seat is of one port, and learns this by the step
 abbrev pub makes : {S : Type 0} → CoreState → Me S (List SeatedPort) → ℕ → Me S (List SeatedPort) → Type 0
-makes c me a me' = IsOne me' × Told c (one_of me.0) a (one_of me'.0)
+makes c me a me' = IsOne me' × SeatShows c (one_of me.0) a (one_of me'.0)
 
 -- a further step of the call of a seat: of the machine to which the port's kept answers lead
 abbrev pub goes_on : {S : Type 0} → Me S (List SeatedPort) → ℕ → Me S (List SeatedPort) → Type 0

@@ -3,7 +3,7 @@
 ghost use Rattle.std.specs.Prelude.{◌≡◌, ◌++◌, ◌∷◌, [], IfOk, OnOk, string_bytes, codes};
 ghost use Rattle.std.specs.List.{flat_map};
 ghost use Rattle.partial_text.specs.PlanText.{call_text, number_field};
-ghost use Rattle.partial_text.specs.OutcomeText.{entry_line, finish_text, optional_field, told_place};
+ghost use Rattle.partial_text.specs.OutcomeText.{entry_line, finish_text, optional_field, written_place};
 ghost use Rattle.partial_picture.specs.Words.{step_words, word_name};
 
 use partial_model::{Answer, Applied, Call, Called, Note};
@@ -56,7 +56,7 @@ pub fn call_words(alloc: Global, call: &Call) -> Result<String, AllocError>
 
 /// The place or the prefix of a note, and 0 when there is no note.
 fn place_of(note: Option<Note>) -> usize
-    ensures { result ≡ told_place note }
+    ensures { result ≡ written_place note }
 {
     match note {
         None => 0,

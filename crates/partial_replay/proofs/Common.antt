@@ -27,4 +27,4 @@ pub use Rattle.partial_replay.specs.declared.memory.Memory.{Memory}
 pub use Rattle.partial_replay.specs.declared.port.{Port.Port, UnderWay.UnderWay}
 pub use Rattle.partial_replay.specs.declared.run.Run.{Run}
 pub use Rattle.partial_replay.specs.{CallSteps.{Makes, HasSteps, IsFinishedAtOnce, IsRefusedAtOnce, IsCallRun, AreStepsOf}, Listed.{calls_by, AreFirstOf, AreAllMade, AreFew, EndInStep, steps_by, HaveMade, steps_in}, Place.{HasLeastPlace, Shows, IsLeastFrom, IsPlaceFrom, IsNoteFrom, prefix_from, HasNoneFrom}, Replayed.{IsReplayOf, turn_lengths, OutcomeView, replayed_view}, ScanPlace.{values_after, values_now, is_other, marks_before, AreMarked, AllHave, AreWanted, AreMarksOf, HasRecord, HasRecords, IsLeft, IsLeast, ShowsValues, AreWantedComponents}, Trace.{Moment, last_behind, event_entry, moments_from, moments_by, ports_of, events_in, adds, is_won, new_of}, Turns.{BeginInTurns, turns_of, turns_by, lengths_in, so_many, to_its_end, made_in, left_behind, ports_in, idle_in, lengths_of}}
-pub use Rattle.partial_replay.specs.Inner.{PortState.{AreFinished, IsCallUnderWay, PortFits, end_of_call, ends_of, notes_in, unfinished_call, IsCallGoing, HasTurned, steps_under_way, IsFinishedCall, IsDoneAtOnce, entry_at, one_step_more, IsEndedCall, CallGoesOn, Ends, StepMade, PortMade, KeepsMade, began_at, ended_call, core_behind, event_of, AreWithin, ScanHasValues, MayAnswer, IsExchangeWithin, MayStep, KeepsFit, BeginsInTurn}, RunState.{ReplayState, state_of, PortAt, PortsFit, no_ports, first_port, IsRunOf, left_over, calls_in, FreshFrom, AreFreshPorts, AreListed, ArePlans, ArePortsMade, AreStarted, AreStartedBut, unvalued, IsBetweenTurns, TellsOutcome, left_for, port_left, port_left_at, IsTurnReady, ChangesPortsOnly, IsSameOpening}, TurnState.{MakeTurns, HasTurns, StopsAtStep, StopAtSteps, IsPortDone, HasMadeTurns, BeganInTurns, lengths_so_far, HaveBegun, StayDone, StayStopped, StayStoppedBut, StayStoppedWith, GoesOnBy, own_turns, BeginsIn, StepsIn, GoesOnIn, moments_behind, TurnMade, StepsMade, TurnsMade, HasReplayed}}
+pub use Rattle.partial_replay.specs.Inner.{PortState.{AreFinished, IsCallUnderWay, PortFits, end_of_call, ends_of, notes_in, unfinished_call, IsCallGoing, HasTurned, steps_under_way, IsFinishedCall, IsDoneAtOnce, entry_at, one_step_more, IsEndedCall, CallGoesOn, Ends, StepMade, PortMade, KeepsMade, began_at, ended_call, core_behind, event_of, AreWithin, ScanHasValues, MayAnswer, IsExchangeWithin, MayStep, KeepsFit, BeginsInTurn}, RunState.{ReplayState, state_of, PortAt, PortsFit, no_ports, first_port, IsRunOf, left_over, calls_in, FreshFrom, AreFreshPorts, AreListed, ArePlans, ArePortsMade, AreStarted, AreStartedBut, unvalued, IsBetweenTurns, GivesOutcome, left_for, port_left, port_left_at, IsTurnReady, ChangesPortsOnly, IsSameOpening}, TurnState.{MakeTurns, HasTurns, StopsAtStep, StopAtSteps, IsPortDone, HasMadeTurns, BeganInTurns, lengths_so_far, HaveBegun, StayDone, StayStopped, StayStoppedBut, StayStoppedWith, GoesOnBy, own_turns, BeginsIn, StepsIn, GoesOnIn, moments_behind, TurnMade, StepsMade, TurnsMade, HasReplayed}}

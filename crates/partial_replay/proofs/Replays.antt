@@ -1,5 +1,5 @@
 -- What a replay ends with is an outcome of its plan.
-use Rattle.partial_replay.proofs.{Common.{ℕ, Bool, true, false, if◌then◌else◌, zero, suc, ◌⊎◌, ◌≡◌, ◌<◌, ◌≤◌, ◌==◌, List, [], ◌∷◌, length, map, take, slice_index_or, Some, slice_get, refl, sym, ◌∙◌, ap, subst, inl, inr, arith, filter_map, sum_by, AllByRecursion, get_or_from_slice_get, Applied, Opening, Call, Called, LegalOutcome, Event, Layout, pool_base, record_value, Leads, Agrees, AreOpeningWords, sum_by-cons, PlanView, CoreState, fresh, AreStepsOf, most_steps, Port, Run, HasLeastPlace, event_entry, moments_from, moments_by, ports_of, events_in, turns_of, turns_by, ports_in, lengths_in, BeginInTurns, calls_by, steps_by, AreFirstOf, AreAllMade, EndInStep, HaveMade, AreFew, IsReplayOf, turn_lengths, AreStarted, IsRunOf, TellsOutcome, calls_in, StopsAtStep, StopAtSteps, IsPortDone, BeganInTurns, lengths_so_far, lawful_ports_fit, place_below, OutcomeView, ReplayState, PortAt, HasReplayed}, PortSteps.{ending_begun, steps_begun, events_steps, none_moments}, RunLaws.PartAt, RunSteps.{ports_length, part_at}, LegalOutcomes.{begun_by, few_told, least_told, run_legal, listed_at, none_listed, first_begun, all_made}, TurnLaws.{follows_ports, turns_told}, TurnLengths.lengths_same, PortTurns.turns_over, Traces.entries_told}
+use Rattle.partial_replay.proofs.{Common.{ℕ, Bool, true, false, if◌then◌else◌, zero, suc, ◌⊎◌, ◌≡◌, ◌<◌, ◌≤◌, ◌==◌, List, [], ◌∷◌, length, map, take, slice_index_or, Some, slice_get, refl, sym, ◌∙◌, ap, subst, inl, inr, arith, filter_map, sum_by, AllByRecursion, get_or_from_slice_get, Applied, Opening, Call, Called, LegalOutcome, Event, Layout, pool_base, record_value, Leads, Agrees, AreOpeningWords, sum_by-cons, PlanView, CoreState, fresh, AreStepsOf, most_steps, Port, Run, HasLeastPlace, event_entry, moments_from, moments_by, ports_of, events_in, turns_of, turns_by, ports_in, lengths_in, BeginInTurns, calls_by, steps_by, AreFirstOf, AreAllMade, EndInStep, HaveMade, AreFew, IsReplayOf, turn_lengths, AreStarted, IsRunOf, GivesOutcome, calls_in, StopsAtStep, StopAtSteps, IsPortDone, BeganInTurns, lengths_so_far, lawful_ports_fit, place_below, OutcomeView, ReplayState, PortAt, HasReplayed}, PortSteps.{ending_begun, steps_begun, events_steps, none_moments}, RunLaws.PartAt, RunSteps.{ports_length, part_at}, LegalOutcomes.{begun_by, few_told, least_told, run_legal, listed_at, none_listed, first_begun, all_made}, TurnLaws.{follows_ports, turns_told}, TurnLengths.lengths_same, PortTurns.turns_over, Traces.entries_told}
 
 -- a place of a list is in it or past its end
 pub at_place : {A : Type 0} (xs : List A) (i : ℕ) → ((x : A) × (slice_get xs i ≡ Some x)) ⊎ (length xs ≤ i)
@@ -118,7 +118,7 @@ calls_wait z false turns plan cs few first less made =
     made.2 (omega (arith, steps, front, all, less))
 
 -- a run that has ended gives an outcome of its plan
-pub replay_told : (p : PlanView) (run : Run) (outcome : OutcomeView) → HasReplayed p p.ports (turns_of p) run → (p.rest ≡ false → StopAtSteps p.steps run) → TellsOutcome p.ports run outcome →
+pub replay_told : (p : PlanView) (run : Run) (outcome : OutcomeView) → HasReplayed p p.ports (turns_of p) run → (p.rest ≡ false → StopAtSteps p.steps run) → GivesOutcome p.ports run outcome →
     IsReplayOf p outcome
 replay_told p run outcome replayed ends t =
     let w = replayed.between.replay.state in

@@ -158,8 +158,8 @@ due_adds {s} {port} at was step due =
     let l = leads at was step due in
     let own : StepAdds z z.m words step (port_of at.x) = adds z words (port_of at.x) step l.publishes (λ e is.
     let records = lawful_records_are_within z s.opening (words_after words step) (at.before ++ l.y ∷ at.after) (log ++ added_by z (port_of at.x) words step) l.lawful in
-    let IsBehind : Applied → Type 0 = λ e. (z.m ≤ e.stamp) × (view_word e.stamp < length (words_after words step)) in
-    (last_of IsBehind log e (subst (λ (es : List Applied). AllByRecursion IsBehind (log ++ es)) is records.entries)).0) in
+    let IsAfterAnswer : Applied → Type 0 = λ e. (z.m ≤ e.stamp) × (view_word e.stamp < length (words_after words step)) in
+    (last_of IsAfterAnswer log e (subst (λ (es : List Applied). AllByRecursion IsAfterAnswer (log ++ es)) is records.entries)).0) in
     subst (λ (n : ℕ). StepAdds z n words step port.number) (ap (λ (y : Layout). y.m) (sym l.tells.sizes)) (subst (StepAdds z z.m words step) (at.fits.part ∙ sym at.fits.number) own)
 
 -- fewer positions, fewer steps: a scan makes no more than an update

@@ -41,7 +41,7 @@ fn opening_words(alloc: Global, sizes: Sizes, initial: &[u64]) -> Result<PlainWo
 }
 
 impl Run {
-    ghost use Rattle.partial_replay.specs.Inner.RunState.{ArePlans, AreStarted, IsBetweenTurns, IsTurnReady, IsReplay, ChangesPortsOnly, IsSameOpening, TellsOutcome, port_left_at};
+    ghost use Rattle.partial_replay.specs.Inner.RunState.{ArePlans, AreStarted, IsBetweenTurns, IsTurnReady, IsReplay, ChangesPortsOnly, IsSameOpening, GivesOutcome, port_left_at};
     ghost use Rattle.partial_replay.specs.Inner.TurnState.{BeginsIn, GoesOnBy, HaveBegun, IsPortDone, StayDone, StayStoppedBut, StayStoppedWith, StepsIn, StopAtSteps, TurnMade, TurnsMade};
 
     /// Opens the replay of a plan with these ports.
@@ -218,7 +218,7 @@ impl Run {
         plans: &[Sequence<Call>],
     ) -> Result<Replayed, AllocError>
         requires { IsReplay plans.now self }
-        ensures { IfOk result (λ replayed. TellsOutcome plans.now self (replayed_view replayed)) }
+        ensures { IfOk result (λ replayed. GivesOutcome plans.now self (replayed_view replayed)) }
     {
         let Run {
             opening,

@@ -3,7 +3,7 @@ pub mod Cuts
 pub mod CallCuts
 pub mod Steps
 pub mod Bytes
-pub mod Telling
+pub mod TextGiven
 pub mod Values
 pub mod NumberLaws
 pub mod PieceLaws

@@ -29,9 +29,9 @@ optional_field None = codes " -"
 optional_field (Some n) = number_field n
 
 -- the place or the prefix of a note, and 0 when there is no note
-abbrev pub told_place : Option Note → ℕ
-told_place None = 0
-told_place (Some note) = place_of note
+abbrev pub written_place : Option Note → ℕ
+written_place None = 0
+written_place (Some note) = place_of note
 
 -- an answer, up to its place or prefix
 abbrev pub answer_front : Answer → List ℕ
@@ -67,7 +67,7 @@ answer_text a k = answer_front a ++ place_field a k ++ answer_back a
 -- how a call ended
 abbrev pub finish_text : Option Finish → List ℕ
 finish_text None = codes " unfinished"
-finish_text (Some f) = answer_text f.answer (told_place f.note)
+finish_text (Some f) = answer_text f.answer (written_place f.note)
 
 -- the length of the history when the call ended
 abbrev pub ended_of : Option Finish → Option ℕ

@@ -1,7 +1,7 @@
 //! The pieces of a text that is given to a writer, gathered to be written together.
 
 ghost use Rattle.std.specs.Prelude.{◌≡◌, ◌<◌, ◌^◌, [], true, false, IfOk, IfErr, OnOk};
-ghost use Rattle.partial_text.specs.Inner.Telling.{TellsBytes, telling};
+ghost use Rattle.partial_text.specs.Inner.TextGiven.{GivesBytes, text_given};
 
 use crate::device::Device;
 use crate::fault::OutcomeError;
@@ -30,7 +30,7 @@ impl Model for Gathered {
 
 /// Writes the bytes, unless a write has failed before.
 fn put<W: Write>(bytes: &[u8], writer: &mut Device<W>)
-    ensures told { TellsBytes (telling W.contents [] writer.old) bytes.now (telling W.contents [] writer.new) }
+    ensures told { GivesBytes (text_given W.contents [] writer.old) bytes.now (text_given W.contents [] writer.new) }
     ensures stopped { writer.old.failed ≡ true → writer.new ≡ writer.old }
 {
     if !writer.failed() {
@@ -51,8 +51,8 @@ impl Gathered {
     /// Takes the bytes: gathers them, and writes what is gathered when there is no room for them.
     #[inline(always)]
     pub(crate) fn tell<W: Write>(&mut self, writer: &mut Device<W>, bytes: &[u8])
-        ensures { TellsBytes (telling W.contents self.old writer.old) bytes.now
-            (telling W.contents self.new writer.new) }
+        ensures { GivesBytes (text_given W.contents self.old writer.old) bytes.now
+            (text_given W.contents self.new writer.new) }
     {
         self.make_room(writer, bytes.len());
         if self.bytes.extend_from_slice(bytes).is_err() {
@@ -63,8 +63,8 @@ impl Gathered {
     // Takes bytes that can't be gathered: writes what is gathered, and then them.
     #[inline(never)]
     fn write_through<W: Write>(&mut self, writer: &mut Device<W>, bytes: &[u8])
-        ensures { TellsBytes (telling W.contents self.old writer.old) bytes.now
-            (telling W.contents self.new writer.new) }
+        ensures { GivesBytes (text_given W.contents self.old writer.old) bytes.now
+            (text_given W.contents self.new writer.new) }
     {
         self.hand_on(writer);
         put(bytes, writer);
@@ -74,7 +74,7 @@ impl Gathered {
     #[inline(always)]
     fn make_room<W: Write>(&mut self, writer: &mut Device<W>, count: usize)
         requires { count < 2 ^ 63 }
-        ensures { TellsBytes (telling W.contents self.old writer.old) [] (telling W.contents self.new writer.new) }
+        ensures { GivesBytes (text_given W.contents self.old writer.old) [] (text_given W.contents self.new writer.new) }
     {
         if self.bytes.len() + count > ROOM {
             self.hand_on(writer);
@@ -84,7 +84,7 @@ impl Gathered {
     // Writes what is gathered.
     #[inline(never)]
     fn hand_on<W: Write>(&mut self, writer: &mut Device<W>)
-        ensures told { TellsBytes (telling W.contents self.old writer.old) [] (telling W.contents self.new writer.new) }
+        ensures told { GivesBytes (text_given W.contents self.old writer.old) [] (text_given W.contents self.new writer.new) }
         ensures empty { self.new ≡ [] }
     {
         put(&self.bytes, writer);
@@ -97,7 +97,7 @@ impl Gathered {
     ///
     /// `Write` when one has. A part of the text from its front has been written then.
     pub(crate) fn end<W: Write>(mut self, writer: &mut Device<W>) -> Result<(), OutcomeError>
-        ensures told { TellsBytes (telling W.contents self writer.old) [] (telling W.contents [] writer.new) }
+        ensures told { GivesBytes (text_given W.contents self writer.old) [] (text_given W.contents [] writer.new) }
         ensures ok { OnOk result (writer.new.failed ≡ false) }
         ensures fault { IfErr result (λ error. (error ≡ OutcomeError.Write) × (writer.new.failed ≡ true)) }
     {

@@ -6,7 +6,7 @@ ghost use Rattle.partial_text.specs.Judging.{judged_plan};
 
 /// The text of a plan is judged to be that plan, and a text that is judged to be a plan is the text of it.
 /// So no two texts are judged to be one plan.
-pub fn texts_tell_plans()
+pub fn texts_determine_plans()
     ensures read { (p : PlanView) → IsPlan p → judged_plan (plan_text p) ≡ Ok p }
     ensures text { (text : List ℕ) → (p : PlanView) → judged_plan text ≡ Ok p
         → IsPlan p × (text ≡ plan_text p) }

@@ -22,7 +22,7 @@ mod writing;
 
 pub use device::Device;
 pub use fault::{Cause, OutcomeError, PlanError};
-pub use law::{plans_have_few_calls, texts_tell_plans};
+pub use law::{plans_have_few_calls, texts_determine_plans};
 pub use outcome::Outcome;
 pub use plan::Plan;
 pub use replayed::{Replayed, in_one_list};

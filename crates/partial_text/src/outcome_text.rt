@@ -3,9 +3,9 @@
 ghost use Rattle.std.specs.Prelude.{◌≡◌, ◌++◌, decimal, IfOk};
 ghost use Rattle.std.specs.List.{flat_map};
 ghost use Rattle.partial_text.specs.PlanText.{number_field};
-ghost use Rattle.partial_text.specs.OutcomeText.{entry_line, entry_lines, optional_field, told_place, answer_front, place_field, answer_back, answer_text, finish_text, ended_of, call_line, values_of, values_line, total_line, outcome_text};
+ghost use Rattle.partial_text.specs.OutcomeText.{entry_line, entry_lines, optional_field, written_place, answer_front, place_field, answer_back, answer_text, finish_text, ended_of, call_line, values_of, values_line, total_line, outcome_text};
 ghost use Rattle.partial_text.specs.Replayed.{calls_in_order};
-ghost use Rattle.partial_text.specs.Inner.Telling.{TellsBytes, telling};
+ghost use Rattle.partial_text.specs.Inner.TextGiven.{GivesBytes, text_given};
 
 use crate::device::Device;
 use crate::gathered::Gathered;
@@ -18,14 +18,14 @@ use std::io::Write;
 
 /// Writes the digits of the number.
 fn tell_digits<W: Write>(text: &mut Gathered, out: &mut Device<W>, number: u64)
-    ensures { TellsBytes (telling W.contents text.old out.old) (decimal number)
-        (telling W.contents text.new out.new) }
+    ensures { GivesBytes (text_given W.contents text.old out.old) (decimal number)
+        (text_given W.contents text.new out.new) }
 {
     text.tell(out, Buffer::new().format(number).as_bytes());
 }
 
 /// Writes the word, which ends with a space, and the number.
-#[tactic(auto, using(crate::proofs::Telling::tellings))]
+#[tactic(auto, using(crate::proofs::TextGiven::tellings))]
 #[inline(always)]
 pub(crate) fn tell_field<W: Write>(
     text: &mut Gathered,
@@ -33,8 +33,8 @@ pub(crate) fn tell_field<W: Write>(
     word: &[u8],
     number: u64,
 )
-    ensures { TellsBytes (telling W.contents text.old out.old) (word.now ++ decimal number)
-        (telling W.contents text.new out.new) }
+    ensures { GivesBytes (text_given W.contents text.old out.old) (word.now ++ decimal number)
+        (text_given W.contents text.new out.new) }
 {
     text.tell(out, word);
     tell_digits(text, out, number);
@@ -42,16 +42,16 @@ pub(crate) fn tell_field<W: Write>(
 
 /// Writes a space and the number.
 pub(crate) fn tell_number<W: Write>(text: &mut Gathered, out: &mut Device<W>, number: u64)
-    ensures { TellsBytes (telling W.contents text.old out.old) (number_field number)
-        (telling W.contents text.new out.new) }
+    ensures { GivesBytes (text_given W.contents text.old out.old) (number_field number)
+        (text_given W.contents text.new out.new) }
 {
     tell_field(text, out, b" ", number);
 }
 
 /// Writes each number with a space before it.
 fn tell_numbers<W: Write>(text: &mut Gathered, out: &mut Device<W>, numbers: &[u64])
-    ensures { TellsBytes (telling W.contents text.old out.old) (flat_map number_field numbers.now)
-        (telling W.contents text.new out.new) }
+    ensures { GivesBytes (text_given W.contents text.old out.old) (flat_map number_field numbers.now)
+        (text_given W.contents text.new out.new) }
 {
     for number in numbers {
         tell_number(text, out, *number);
@@ -60,8 +60,8 @@ fn tell_numbers<W: Write>(text: &mut Gathered, out: &mut Device<W>, numbers: &[u
 
 /// Writes a space and the number, or a dash when there is none.
 fn tell_optional<W: Write>(text: &mut Gathered, out: &mut Device<W>, number: Option<u64>)
-    ensures { TellsBytes (telling W.contents text.old out.old) (optional_field number)
-        (telling W.contents text.new out.new) }
+    ensures { GivesBytes (text_given W.contents text.old out.old) (optional_field number)
+        (text_given W.contents text.new out.new) }
 {
     match number {
         None => text.tell(out, b" -"),
@@ -70,8 +70,8 @@ fn tell_optional<W: Write>(text: &mut Gathered, out: &mut Device<W>, number: Opt
 }
 
 fn tell_entry<W: Write>(text: &mut Gathered, out: &mut Device<W>, place: usize, entry: &Applied)
-    ensures { TellsBytes (telling W.contents text.old out.old) (entry_line place entry.now)
-        (telling W.contents text.new out.new) }
+    ensures { GivesBytes (text_given W.contents text.old out.old) (entry_line place entry.now)
+        (text_given W.contents text.new out.new) }
 {
     tell_field(text, out, b"applied ", place as u64);
     tell_field(text, out, b" port ", u64::from(entry.port));
@@ -82,7 +82,7 @@ fn tell_entry<W: Write>(text: &mut Gathered, out: &mut Device<W>, place: usize, 
 }
 
 fn place(note: Option<Note>) -> usize
-    ensures { result ≡ told_place note }
+    ensures { result ≡ written_place note }
 {
     match note {
         None => 0,
@@ -93,10 +93,10 @@ fn place(note: Option<Note>) -> usize
 }
 
 /// Writes an answer up to its place or prefix.
-#[tactic(auto, using(crate::proofs::Telling::tellings))]
+#[tactic(auto, using(crate::proofs::TextGiven::tellings))]
 pub(crate) fn tell_answer_front<W: Write>(text: &mut Gathered, out: &mut Device<W>, answer: &Answer)
-    ensures { TellsBytes (telling W.contents text.old out.old) (answer_front answer.now)
-        (telling W.contents text.new out.new) }
+    ensures { GivesBytes (text_given W.contents text.old out.old) (answer_front answer.now)
+        (text_given W.contents text.new out.new) }
 {
     match answer {
         Answer::Applied { stamp } => tell_field(text, out, b" applied ", *stamp),
@@ -116,8 +116,8 @@ pub(crate) fn tell_answer_front<W: Write>(text: &mut Gathered, out: &mut Device<
 
 /// Writes the place or the prefix of an answer.
 fn tell_place<W: Write>(text: &mut Gathered, out: &mut Device<W>, answer: &Answer, place: usize)
-    ensures { TellsBytes (telling W.contents text.old out.old) (place_field answer.now place)
-        (telling W.contents text.new out.new) }
+    ensures { GivesBytes (text_given W.contents text.old out.old) (place_field answer.now place)
+        (text_given W.contents text.new out.new) }
 {
     match answer {
         Answer::Applied { .. } | Answer::Lost { .. } => {
@@ -129,10 +129,10 @@ fn tell_place<W: Write>(text: &mut Gathered, out: &mut Device<W>, answer: &Answe
 }
 
 /// Writes what follows the prefix of a scan, and nothing of other answers.
-#[tactic(auto, using(crate::proofs::Telling::tellings))]
+#[tactic(auto, using(crate::proofs::TextGiven::tellings))]
 pub(crate) fn tell_answer_back<W: Write>(text: &mut Gathered, out: &mut Device<W>, answer: &Answer)
-    ensures { TellsBytes (telling W.contents text.old out.old) (answer_back answer.now)
-        (telling W.contents text.new out.new) }
+    ensures { GivesBytes (text_given W.contents text.old out.old) (answer_back answer.now)
+        (text_given W.contents text.new out.new) }
 {
     if let Answer::Scanned {
         collects,
@@ -146,10 +146,10 @@ pub(crate) fn tell_answer_back<W: Write>(text: &mut Gathered, out: &mut Device<W
     }
 }
 
-#[tactic(auto, using(crate::proofs::Telling::tellings))]
+#[tactic(auto, using(crate::proofs::TextGiven::tellings))]
 fn tell_answer<W: Write>(text: &mut Gathered, out: &mut Device<W>, answer: &Answer, place: usize)
-    ensures { TellsBytes (telling W.contents text.old out.old) (answer_text answer.now place)
-        (telling W.contents text.new out.new) }
+    ensures { GivesBytes (text_given W.contents text.old out.old) (answer_text answer.now place)
+        (text_given W.contents text.new out.new) }
 {
     tell_answer_front(text, out, answer);
     tell_place(text, out, answer, place);
@@ -157,8 +157,8 @@ fn tell_answer<W: Write>(text: &mut Gathered, out: &mut Device<W>, answer: &Answ
 }
 
 fn tell_finish<W: Write>(text: &mut Gathered, out: &mut Device<W>, finish: &Option<Finish>)
-    ensures { TellsBytes (telling W.contents text.old out.old) (finish_text finish.now)
-        (telling W.contents text.new out.new) }
+    ensures { GivesBytes (text_given W.contents text.old out.old) (finish_text finish.now)
+        (text_given W.contents text.new out.new) }
 {
     match finish {
         None => text.tell(out, b" unfinished"),
@@ -176,8 +176,8 @@ fn ended(finish: &Option<Finish>) -> Option<u64>
 }
 
 fn tell_call<W: Write>(text: &mut Gathered, out: &mut Device<W>, called: &Called)
-    ensures { TellsBytes (telling W.contents text.old out.old) (call_line called.now)
-        (telling W.contents text.new out.new) }
+    ensures { GivesBytes (text_given W.contents text.old out.old) (call_line called.now)
+        (text_given W.contents text.new out.new) }
 {
     tell_field(text, out, b"call ", u64::from(called.port));
     tell_number(text, out, u64::from(called.number));
@@ -189,8 +189,8 @@ fn tell_call<W: Write>(text: &mut Gathered, out: &mut Device<W>, called: &Called
 }
 
 fn tell_entries<W: Write>(text: &mut Gathered, out: &mut Device<W>, history: &[Applied])
-    ensures { TellsBytes (telling W.contents text.old out.old) (entry_lines 0 history.now)
-        (telling W.contents text.new out.new) }
+    ensures { GivesBytes (text_given W.contents text.old out.old) (entry_lines 0 history.now)
+        (text_given W.contents text.new out.new) }
 {
     for (place, entry) in history.iter().enumerate() {
         tell_entry(text, out, place, entry);
@@ -198,8 +198,8 @@ fn tell_entries<W: Write>(text: &mut Gathered, out: &mut Device<W>, history: &[A
 }
 
 fn tell_calls<W: Write>(text: &mut Gathered, out: &mut Device<W>, calls: &[Called])
-    ensures { TellsBytes (telling W.contents text.old out.old) (flat_map call_line calls.now)
-        (telling W.contents text.new out.new) }
+    ensures { GivesBytes (text_given W.contents text.old out.old) (flat_map call_line calls.now)
+        (text_given W.contents text.new out.new) }
 {
     for called in calls {
         tell_call(text, out, called);
@@ -208,8 +208,8 @@ fn tell_calls<W: Write>(text: &mut Gathered, out: &mut Device<W>, calls: &[Calle
 
 /// Writes the lines of the calls, one port's after the other's.
 fn tell_calls_of_ports<W: Write>(text: &mut Gathered, out: &mut Device<W>, ports: &[Vec<Called>])
-    ensures { TellsBytes (telling W.contents text.old out.old) (flat_map call_line (calls_in_order ports.now))
-        (telling W.contents text.new out.new) }
+    ensures { GivesBytes (text_given W.contents text.old out.old) (flat_map call_line (calls_in_order ports.now))
+        (text_given W.contents text.new out.new) }
 {
     for calls in ports {
         tell_calls(text, out, calls);
@@ -234,27 +234,27 @@ pub(crate) fn final_values(
 }
 
 /// Writes the line of the values.
-#[tactic(auto, using(crate::proofs::Telling::tellings))]
+#[tactic(auto, using(crate::proofs::TextGiven::tellings))]
 pub(crate) fn tell_values<W: Write>(text: &mut Gathered, out: &mut Device<W>, values: &[u64])
-    ensures { TellsBytes (telling W.contents text.old out.old) (values_line values.now)
-        (telling W.contents text.new out.new) }
+    ensures { GivesBytes (text_given W.contents text.old out.old) (values_line values.now)
+        (text_given W.contents text.new out.new) }
 {
     text.tell(out, b"values");
     tell_numbers(text, out, values);
     text.tell(out, b"\n");
 }
 
-#[tactic(auto, using(crate::proofs::Telling::tellings))]
+#[tactic(auto, using(crate::proofs::TextGiven::tellings))]
 fn tell_total<W: Write>(text: &mut Gathered, out: &mut Device<W>, steps: u64)
-    ensures { TellsBytes (telling W.contents text.old out.old) (total_line steps)
-        (telling W.contents text.new out.new) }
+    ensures { GivesBytes (text_given W.contents text.old out.old) (total_line steps)
+        (text_given W.contents text.new out.new) }
 {
     tell_field(text, out, b"total ", steps);
     text.tell(out, b"\n");
 }
 
 /// Writes the text of an outcome. `values` are those of the components after its history.
-#[tactic(auto, using(crate::proofs::Telling::tellings))]
+#[tactic(auto, using(crate::proofs::TextGiven::tellings))]
 pub(crate) fn tell_outcome<W: Write>(
     text: &mut Gathered,
     out: &mut Device<W>,
@@ -262,9 +262,9 @@ pub(crate) fn tell_outcome<W: Write>(
     values: &[u64],
 )
     requires { values.now ≡ values_of outcome.now.opening outcome.now.history.items }
-    ensures { TellsBytes (telling W.contents text.old out.old)
+    ensures { GivesBytes (text_given W.contents text.old out.old)
         (outcome_text outcome.now.opening outcome.now.history.items outcome.now.calls.items outcome.now.steps)
-        (telling W.contents text.new out.new) }
+        (text_given W.contents text.new out.new) }
 {
     tell_entries(text, out, &outcome.history);
     tell_calls(text, out, &outcome.calls);
@@ -273,7 +273,7 @@ pub(crate) fn tell_outcome<W: Write>(
 }
 
 /// Writes the text of what a replay has made. `values` are those of the components after its history.
-#[tactic(auto, using(crate::proofs::Telling::tellings))]
+#[tactic(auto, using(crate::proofs::TextGiven::tellings))]
 pub(crate) fn tell_replayed<W: Write>(
     text: &mut Gathered,
     out: &mut Device<W>,
@@ -281,10 +281,10 @@ pub(crate) fn tell_replayed<W: Write>(
     values: &[u64],
 )
     requires { values.now ≡ values_of replayed.now.opening replayed.now.history.items }
-    ensures { TellsBytes (telling W.contents text.old out.old)
+    ensures { GivesBytes (text_given W.contents text.old out.old)
         (outcome_text replayed.now.opening replayed.now.history.items
         (calls_in_order replayed.now.calls.items) replayed.now.steps)
-        (telling W.contents text.new out.new) }
+        (text_given W.contents text.new out.new) }
 {
     tell_entries(text, out, &replayed.history);
     tell_calls_of_ports(text, out, &replayed.calls);

@@ -1,7 +1,7 @@
 //! The text of a report, given to a writer.
 
 ghost use Rattle.partial_text.specs.ReportText.{answer_line, answer_lines, port_lines, report_text};
-ghost use Rattle.partial_text.specs.Inner.Telling.{TellsBytes, telling};
+ghost use Rattle.partial_text.specs.Inner.TextGiven.{GivesBytes, text_given};
 
 use crate::device::Device;
 use crate::gathered::Gathered;
@@ -13,7 +13,7 @@ use partial_model::Answer;
 use std::io::Write;
 
 /// Writes the line of an answered call.
-#[tactic(auto, using(crate::proofs::Telling::tellings))]
+#[tactic(auto, using(crate::proofs::TextGiven::tellings))]
 fn tell_answer_line<W: Write>(
     text: &mut Gathered,
     out: &mut Device<W>,
@@ -21,8 +21,8 @@ fn tell_answer_line<W: Write>(
     number: usize,
     answer: &Answer,
 )
-    ensures { TellsBytes (telling W.contents text.old out.old) (answer_line port number answer.now)
-        (telling W.contents text.new out.new) }
+    ensures { GivesBytes (text_given W.contents text.old out.old) (answer_line port number answer.now)
+        (text_given W.contents text.new out.new) }
 {
     tell_field(text, out, b"call ", port as u64);
     tell_number(text, out, number as u64);
@@ -33,8 +33,8 @@ fn tell_answer_line<W: Write>(
 
 /// Writes the lines of a port.
 fn tell_answers<W: Write>(text: &mut Gathered, out: &mut Device<W>, port: usize, answers: &[Answer])
-    ensures { TellsBytes (telling W.contents text.old out.old) (answer_lines port 0 answers.now)
-        (telling W.contents text.new out.new) }
+    ensures { GivesBytes (text_given W.contents text.old out.old) (answer_lines port 0 answers.now)
+        (text_given W.contents text.new out.new) }
 {
     for (number, answer) in answers.iter().enumerate() {
         tell_answer_line(text, out, port, number, answer);
@@ -43,8 +43,8 @@ fn tell_answers<W: Write>(text: &mut Gathered, out: &mut Device<W>, port: usize,
 
 /// Writes the lines of the ports.
 fn tell_ports<W: Write>(text: &mut Gathered, out: &mut Device<W>, ports: &[Vec<Answer>])
-    ensures { TellsBytes (telling W.contents text.old out.old) (port_lines 0 ports.now)
-        (telling W.contents text.new out.new) }
+    ensures { GivesBytes (text_given W.contents text.old out.old) (port_lines 0 ports.now)
+        (text_given W.contents text.new out.new) }
 {
     for (port, answers) in ports.iter().enumerate() {
         tell_answers(text, out, port, answers);
@@ -52,11 +52,11 @@ fn tell_ports<W: Write>(text: &mut Gathered, out: &mut Device<W>, ports: &[Vec<A
 }
 
 /// Writes the text of a report.
-#[tactic(auto, using(crate::proofs::Telling::tellings))]
+#[tactic(auto, using(crate::proofs::TextGiven::tellings))]
 pub(crate) fn tell_report<W: Write>(text: &mut Gathered, out: &mut Device<W>, report: &RunReport)
-    ensures { TellsBytes (telling W.contents text.old out.old)
+    ensures { GivesBytes (text_given W.contents text.old out.old)
         (report_text report.now.answers.items report.now.values.items)
-        (telling W.contents text.new out.new) }
+        (text_given W.contents text.new out.new) }
 {
     tell_ports(text, out, &report.answers);
     tell_values(text, out, &report.values);

@@ -33,7 +33,7 @@ pub record StaysAt (s t : Stand) : Type 0 where
 -- the port may look: it stands, and if it owns an arena it holds no entering word, or has ports left to find
 pub record MayLook (s : Stand) : Type 0 where
   pub stands : (port_at s).port.control.entering ≡ Stands
-  pub marks : IfSome (port_at s).port.control.owned (λ o. (o.mark ≡ None) ⊎ (o.clean < (port_at s).about.ports))
+  pub entering_words : IfSome (port_at s).port.control.owned (λ o. (o.entering_word ≡ None) ⊎ (o.clean < (port_at s).about.ports))
 
 -- the look has found the port's own site the current one, or not
 pub record LookFound (first : Bool) (s : Stand) (here : Bool) (t : Stand) : Type 0 where

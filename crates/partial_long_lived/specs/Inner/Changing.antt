@@ -4,7 +4,7 @@ use Rattle.partial_model.specs.declared.history.Applied.{Applied}
 use Rattle.partial_words.specs.Layout.{Layout, first_free, initial_record, list_base}
 use Rattle.partial_words.specs.Chain.{opening_word}
 use Rattle.partial_words.specs.Record.{value_word, plain_record_size}
-use Rattle.partial_epochs.specs.Layout.{arena_limit, entering_mark, epoch_limit, set_offset, unpacked}
+use Rattle.partial_epochs.specs.Layout.{arena_limit, entering_bit, epoch_limit, set_offset, unpacked}
 use Rattle.partial_epochs.specs.Ports.{OwnedArena}
 use Rattle.partial_epochs.specs.Ports.Entering.{Stands}
 use Rattle.partial_epochs.specs.Entering.{arrived_port}
@@ -36,7 +36,7 @@ GivesBack x a y = OfOwned SeatGives x a y
 
 -- the exchange of the entering word w of a port
 abbrev pub PutsBy : ℕ → SeatedPort → ℕ → SeatedPort → Type 0
-PutsBy w x a y = OfOwned (λ o. PutsPort o (unpacked (w - entering_mark))) x a y
+PutsBy w x a y = OfOwned (λ o. PutsPort o (unpacked (w - entering_bit))) x a y
 
 -- the number of the word that has to be set next after the values of the first n components: the next value, or the first carried stamp
 abbrev pub after_values : Layout → ℕ → ℕ
@@ -102,7 +102,7 @@ pub record HasSetWords (s : Stand) (x q n : ℕ) : Type 0 where
   pub arena : owned.arena ≡ x
   pub looked : owned.looked ≡ true
   pub clean : owned.clean ≡ q
-  pub mark : owned.mark ≡ None
+  pub entering_word : owned.entering_word ≡ None
   pub set : owned.set ≡ n
 
 -- it has just taken the arena
@@ -116,26 +116,26 @@ Tried x true s = HasTaken s x
 Tried x false s = IsIdle s
 
 -- it has looked, is done with the ports below q, and has loaded the word a of port q, which is an entering word
-pub record HoldsMark (s : Stand) (x q a : ℕ) : Type 0 where
+pub record HoldsEnteringWord (s : Stand) (x q a : ℕ) : Type 0 where
   pub stands : (port_at s).port.control.entering ≡ Stands
   pub owned : OwnedArena
   pub is : (port_at s).port.control.owned ≡ Some owned
   pub arena : owned.arena ≡ x
   pub looked : owned.looked ≡ true
   pub clean : owned.clean ≡ q
-  pub mark : owned.mark ≡ Some (unpacked (a - entering_mark))
+  pub entering_word : owned.entering_word ≡ Some (unpacked (a - entering_bit))
   pub set : owned.set ≡ 0
 
 -- it has looked since
 pub record MayPutPort (s : Stand) (x q a : ℕ) : Type 0 where
-  pub holds : HoldsMark s x q a
+  pub holds : HoldsEnteringWord s x q a
   pub again : holds.owned.again ≡ true
 
 -- what it has loaded of port q
 pub record HasLoadedPort (s : Stand) (x q a : ℕ) : Type 0 where
-  pub away : a < entering_mark → a % arena_limit ≢ x → HasSetWords s x (q + 1) 0
-  pub there : a < entering_mark → a % arena_limit ≡ x → HasSetWords s x q 0
-  pub marked : entering_mark ≤ a → HoldsMark s x q a
+  pub away : a < entering_bit → a % arena_limit ≢ x → HasSetWords s x (q + 1) 0
+  pub there : a < entering_bit → a % arena_limit ≡ x → HasSetWords s x q 0
+  pub entering_from : entering_bit ≤ a → HoldsEnteringWord s x q a
 
 -- the port has seen that its epoch has ended
 abbrev pub IsPast : Stand → Type 0
@@ -193,7 +193,7 @@ MeetsBy Ended x s t = ⊤
 
 -- whether the word a of a port shows that it stands in arena x
 abbrev pub shows_met : ℕ → ℕ → Bool
-shows_met x a = nat_lt a entering_mark && (a % arena_limit == x)
+shows_met x a = nat_lt a entering_bit && (a % arena_limit == x)
 
 -- the load of that word goes on with the search
 abbrev pub MeetsPort : ℕ → ℕ → Stand → Stand → Type 0

@@ -14,7 +14,7 @@ use Rattle.partial_machine.specs.declared.stage.Reply.{Reply}
 use Rattle.partial_machine.specs.Machine.{CoreState, advance, reply_of, step_of}
 use Rattle.partial_machine.specs.Calls.{call_of, is_begun}
 use Rattle.partial_core.specs.Part.{IsMachineOf, core_of}
-use Rattle.partial_core.specs.Steps.{Tells, begun_with, since_with}
+use Rattle.partial_core.specs.Steps.{StepShows, begun_with, since_with}
 use Rattle.partial_epochs.specs.Layout.{IsSealed, Plan, plain, seal, slot_limit, unsealed}
 use Rattle.partial_epochs.specs.History.{history_of}
 use Rattle.partial_epochs.specs.Ports.Entering.{Stands}
@@ -34,13 +34,13 @@ change_of (Exchange w old new) n = if n == old then new else n
 change_of (Add w k) n = (n + k) % 2 ^ 64
 
 -- what such a step answers: a store answers nothing
-abbrev pub told_of : Step → ℕ → ℕ
-told_of (Store w v) n = 0
-told_of _ n = n
+abbrev pub answer_found : Step → ℕ → ℕ
+answer_found (Store w v) n = 0
+answer_found _ n = n
 
 -- what the machine is shown: a component word's record, without seals
 abbrev pub unsealed_answer : Plan → Step → ℕ → ℕ
-unsealed_answer e s n = plain e (word_of s) (told_of s n)
+unsealed_answer e s n = plain e (word_of s) (answer_found s n)
 
 -- the claim that is answered so ends past its limit, of the pool or of the slots
 abbrev pub over_by : Plan → Step → ℕ → Bool
@@ -82,7 +82,7 @@ pub record SeatMakes (first : Bool) (c : CoreState) (s : Step) (x : SeatedPort) 
   pub began : BeganBy first x n
   pub log : List Applied
   pub entries : List Applied
-  pub told : Tells x.about.sizes (opening_of x) log entries x.port.part c a y.port.part
+  pub told : StepShows x.about.sizes (opening_of x) log entries x.port.part c a y.port.part
   pub is : y ≡ record x {
     port = record x.port { part = y.port.part; over = x.port.over || over_by (plan_of x.about) s a };
     began = n;

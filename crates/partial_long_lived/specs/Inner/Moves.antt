@@ -2,9 +2,9 @@
 use Rattle.std.specs.Prelude.{ℕ, ◌≡◌, ◌+◌, ◌-◌, ◌<◌, ◌≤◌, ◌==◌, ◌⊎◌, nat_lt, Bool, true, false, List, length, None, if◌then◌else◌}
 use Rattle.std.specs.Option.{option_map_or}
 use Rattle.partial_model.specs.declared.history.Applied.{Applied}
-use Rattle.partial_epochs.specs.Layout.{Site, IsSite, entering_mark, marked, packed, seal, unpacked}
+use Rattle.partial_epochs.specs.Layout.{Site, IsSite, entering_bit, entering_from, packed, seal, unpacked}
 use Rattle.partial_epochs.specs.Ports.{OwnedArena, Port}
-use Rattle.partial_epochs.specs.Ports.Entering.{Marks, Loaded}
+use Rattle.partial_epochs.specs.Ports.Entering.{StoredEntering, Loaded}
 use Rattle.partial_epochs.specs.Entering.{arrived_port, having_passed}
 use Rattle.partial_epochs.specs.Sealing.{passing_port}
 use Rattle.partial_epochs.specs.Owning.{at_next_port, having_given, having_loaded, having_looked, just_taken, owning_port}
@@ -75,12 +75,12 @@ pub record BeginsPass (x : SeatedPort) (a : ℕ) (y : SeatedPort) : Type 0 where
       (x.contention.search.freed < freed) × (freed ≤ x.contention.search.most)
 
 -- a port that has stored its entering word, with which entering begins
-abbrev pub marks : Port → Port
-marks p = record p { control = record p.control { entering = Marks } }
+abbrev pub stored_entering : Port → Port
+stored_entering p = record p { control = record p.control { entering = StoredEntering } }
 
 -- the first: the store of the entering word
-abbrev pub StoresMark : SeatedPort → ℕ → SeatedPort → Type 0
-StoresMark x a y = y ≡ becomes x x.began (marks x.port)
+abbrev pub StoresEnteringWord : SeatedPort → ℕ → SeatedPort → Type 0
+StoresEnteringWord x a y = y ≡ becomes x x.began (stored_entering x.port)
 
 -- a port that has loaded the site c as the current one
 abbrev pub loads : Site → Port → Port
@@ -93,7 +93,7 @@ LoadsCurrent x a y = (a ≡ packed (unpacked a)) × IsSite (plan_of x.about) (un
 
 -- the site that a port enters which has loaded c, when the exchange of its entering word finds a
 abbrev pub site_found : Port → Site → ℕ → Site
-site_found p c a = if a == marked p.control.here then c else unpacked a
+site_found p c a = if a == entering_from p.control.here then c else unpacked a
 
 -- the third: the port enters a later epoch, with a new part there
 abbrev pub SeatArrives : Site → SeatedPort → ℕ → SeatedPort → Type 0
@@ -139,7 +139,7 @@ elsewhere a o = if (unpacked a).arena == o.arena then o else at_next_port o
 
 -- the same of a word that may have the entering bit: the owner has loaded it
 abbrev pub port_loaded : ℕ → OwnedArena → OwnedArena
-port_loaded a o = if nat_lt a entering_mark then elsewhere a o else having_loaded o (unpacked (a - entering_mark))
+port_loaded a o = if nat_lt a entering_bit then elsewhere a o else having_loaded o (unpacked (a - entering_bit))
 
 -- what an owner has met by the word a of a port, without the entering bit: that the port stands in the arena, unless it names another one
 abbrev pub contention_there : ℕ → OwnedArena → Contention → Contention
@@ -147,7 +147,7 @@ contention_there a o m = if (unpacked a).arena == o.arena then meeting m else m
 
 -- the same of a word that may have the entering bit
 abbrev pub contention_loading : ℕ → OwnedArena → Contention → Contention
-contention_loading a o m = if nat_lt a entering_mark then contention_there a o m else m
+contention_loading a o m = if nat_lt a entering_bit then contention_there a o m else m
 
 -- that load, by the owner o
 abbrev pub LoadsPort : OwnedArena → SeatedPort → ℕ → SeatedPort → Type 0
@@ -155,11 +155,11 @@ LoadsPort o x a y = y ≡ record (becomes x x.began (owning_port x.port (port_lo
 
 -- an owner that has exchanged the entering word m of that port for its own site, and found a
 abbrev pub port_put : Site → ℕ → OwnedArena → OwnedArena
-port_put m a o = if a == marked m then at_next_port o else (if nat_lt a entering_mark then elsewhere a o else o)
+port_put m a o = if a == entering_from m then at_next_port o else (if nat_lt a entering_bit then elsewhere a o else o)
 
 -- what it has met then: a port that may enter the arena, unless it was put or is in another one
 abbrev pub contention_putting : Site → ℕ → OwnedArena → Contention → Contention
-contention_putting m a o w = if a == marked m then w else (if nat_lt a entering_mark then contention_there a o w else meeting w)
+contention_putting m a o w = if a == entering_from m then w else (if nat_lt a entering_bit then contention_there a o w else meeting w)
 
 -- that exchange, by the owner o
 abbrev pub PutsPort : OwnedArena → Site → SeatedPort → ℕ → SeatedPort → Type 0

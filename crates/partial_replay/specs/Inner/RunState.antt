@@ -159,7 +159,7 @@ AreListed (calls ∷ plans) (port ∷ ports) = (length calls < 2 ^ 32) ×
 AreListed _ _ = ⊥
 
 -- what a replay has made in the end
-pub record TellsOutcome (plans : List (List Call)) (run : Run) (outcome : OutcomeView) : Type 0 where
+pub record GivesOutcome (plans : List (List Call)) (run : Run) (outcome : OutcomeView) : Type 0 where
   pub opening : outcome.opening ≡ run.opening
   pub history : outcome.history ≡ run.memory.history.items
   pub calls : outcome.calls ≡ calls_in plans run.ports.items

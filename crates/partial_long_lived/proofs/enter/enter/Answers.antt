@@ -1,9 +1,9 @@
 use Rattle.std.proofs.Common.{arith, rules, tests}
-use Rattle.partial_long_lived.proofs.{Common.◌∙◌, Entry.{arrive_asked, load_asked, mark_asked}, Standing.{port_word, some_word}}
+use Rattle.partial_long_lived.proofs.{Common.◌∙◌, Entry.{arrive_asked, load_asked, entering_asked}, Standing.{port_word, some_word}}
 use Rattle.partial_long_lived.proofs.enter.enter.Goals as goal
 
 pub store-requires : goal.store-requires
-store-requires c = let h = c.requires.held in (h.fits, port_word _ _ _ h, mark_asked _ _ _ h c.requires.may _ _ _ c.packed-mark.ensures)
+store-requires c = let h = c.requires.held in (h.fits, port_word _ _ _ h, entering_asked _ _ _ h c.requires.may _ _ _ c.packed-entering_word.ensures)
 
 pub load-current-requires : goal.load-current-requires
 load-current-requires c =
@@ -13,7 +13,7 @@ load-current-requires c =
 pub compare_exchange-found-requires : goal.compare_exchange-found-requires
 compare_exchange-found-requires c =
     let h = c.requires.held in
-    (c.load-current.ensures.0 ∙ c.store.ensures.0 ∙ h.fits, port_word _ _ _ h, arrive_asked _ _ _ h _ 0 c.store.ensures.2 _ _ c.load-current.ensures.2 _ _ _ c.packed-mark.ensures)
+    (c.load-current.ensures.0 ∙ c.store.ensures.0 ∙ h.fits, port_word _ _ _ h, arrive_asked _ _ _ h _ 0 c.store.ensures.2 _ _ c.load-current.ensures.2 _ _ _ c.packed-entering_word.ensures)
 
 pub returns-clause-held : goal.returns-clause-held
 returns-clause-held c = search (tests, rules)

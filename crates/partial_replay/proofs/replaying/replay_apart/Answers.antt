@@ -1,4 +1,4 @@
-use Rattle.partial_replay.proofs.{Common.{ℕ, ◌≡◌, ◌++◌, ◌∙◌, Bool, false, if◌then◌else◌, List, [], length, slice_index_or, Option, Some, None, map, take, ap, subst, sym, arith, ◌<◌, ◌≤◌, IsLayout, range_with_len, take_all, false≢true, Call, Run, TellsOutcome, ArePlans, StopAtSteps, TurnsMade, IsReplayOf, AllByRecursion-get, IsTurnEntry, Layout, ports_of, so_many, to_its_end, turns_of, HasReplayed, replayed_view}, Plans.are_plans, PortLaws.get_is, Replays.replay_told, RunTurns.next_turns, TurnLaws.{next_steps, all_steps, next_end, ending_next}}
+use Rattle.partial_replay.proofs.{Common.{ℕ, ◌≡◌, ◌++◌, ◌∙◌, Bool, false, if◌then◌else◌, List, [], length, slice_index_or, Option, Some, None, map, take, ap, subst, sym, arith, ◌<◌, ◌≤◌, IsLayout, range_with_len, take_all, false≢true, Call, Run, GivesOutcome, ArePlans, StopAtSteps, TurnsMade, IsReplayOf, AllByRecursion-get, IsTurnEntry, Layout, ports_of, so_many, to_its_end, turns_of, HasReplayed, replayed_view}, Plans.are_plans, PortLaws.get_is, Replays.replay_told, RunTurns.next_turns, TurnLaws.{next_steps, all_steps, next_end, ending_next}}
 use Rattle.partial_replay.specs.Inner.RunState.{IsReplay}
 use Rattle.partial_replay.proofs.replaying.replay_apart.Goals.{then-rest+else-loop-p-then-rest-test, else-rest}
 use Rattle.partial_replay.proofs.replaying.replay_apart.Goals as goal
@@ -42,7 +42,7 @@ returns c =
     let is = c.ports-plans.ensures.value in
     let ends_told : (run : Run) → c.if-rest.run ≡ run → HasReplayed p plans (turns_of p) run → (p.rest ≡ false → StopAtSteps p.steps run) → IsReplayOf p outcome = λ run same w ends.
     replay_told p run outcome (subst (λ (l : List (List Call)). HasReplayed p l (turns_of p) run) is w) ends
-    (subst (λ (l : List (List Call)). TellsOutcome l run outcome) is (subst (λ (v : Run). TellsOutcome plans v outcome) same c.in_ok-into_replayed.ensures)) in
+    (subst (λ (l : List (List Call)). GivesOutcome l run outcome) is (subst (λ (v : Run). GivesOutcome plans v outcome) same c.in_ok-into_replayed.ensures)) in
     let steps : length c.steps-p-items.result.now ≡ length p.steps = ap length c.steps-p-items.ensures.value in
     let front = all_steps p.steps c.loop-p.p-index (omega (arith, c.loop-p-test.false, steps)) in
     elim c.if-rest.branch [

@@ -1,8 +1,8 @@
 use Rattle.std.proofs.Common.{rules}
 use Rattle.std.proofs.lemmas.List.{drop_more}
 use Rattle.partial_model.specs.declared.history.Applied.{Applied}
-use Rattle.partial_text.proofs.{Common.{◌<◌, length, sym, subst, List, entry_lines}, Telling.tells_then}
-use Rattle.partial_text.specs.Inner.Telling.{TellsBytes, telling}
+use Rattle.partial_text.proofs.{Common.{◌<◌, length, sym, subst, List, entry_lines}, TextGiven.tells_then}
+use Rattle.partial_text.specs.Inner.TextGiven.{GivesBytes, text_given}
 use Rattle.partial_text.proofs.outcome_text.tell_entries.Goals as goal
 
 pub loop-place-preserved : goal.loop-place-preserved
@@ -11,5 +11,5 @@ loop-place-preserved g c = λ end rest.
     let k = c.loop-place.place in
     let inside : k < length xs = search rules in
     let more = drop_more xs k (record { port = 0; component = 0; value = 0; stamp = 0 }) inside in
-    let now = telling g.W.Write.contents c.loop-place.text c.loop-place.out in
-    c.loop-place.invariant end (subst (λ (left : List Applied). TellsBytes now (entry_lines k left) end) (sym more) (tells_then _ _ _ _ _ c.tell_entry.ensures rest))
+    let now = text_given g.W.Write.contents c.loop-place.text c.loop-place.out in
+    c.loop-place.invariant end (subst (λ (left : List Applied). GivesBytes now (entry_lines k left) end) (sym more) (tells_then _ _ _ _ _ c.tell_entry.ensures rest))

@@ -1,4 +1,4 @@
-use Rattle.partial_text.proofs.{Common.{[], ◌∷◌, codes, number_field, sym}, Telling.{tells_then, tells_more}}
+use Rattle.partial_text.proofs.{Common.{[], ◌∷◌, codes, number_field, sym}, TextGiven.{tells_then, tells_more}}
 use Rattle.partial_text.proofs.outcome_text.tell_entry.Goals as goal
 
 pub returns : goal.returns

@@ -1,4 +1,4 @@
-use Rattle.partial_text.proofs.Telling.{tells_ok, tells_err}
+use Rattle.partial_text.proofs.TextGiven.{tells_ok, tells_err}
 use Rattle.partial_text.proofs.writing.write_report.Goals as goal
 
 pub returns-clause-ok : goal.returns-clause-ok

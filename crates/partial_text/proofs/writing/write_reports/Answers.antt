@@ -1,4 +1,4 @@
-use Rattle.partial_text.proofs.Telling.{tells_ok, tells_err, tells_then}
+use Rattle.partial_text.proofs.TextGiven.{tells_ok, tells_err, tells_then}
 use Rattle.partial_text.proofs.writing.write_reports.Goals as goal
 
 pub returns-clause-ok : goal.returns-clause-ok

@@ -1,5 +1,5 @@
 use Rattle.partial_text.proofs.{Common.{sym, ◌∙◌}, PlanLaws.judged_ok, AgainLaws.judged_again}
-use Rattle.partial_text.proofs.law.texts_tell_plans.Goals as goal
+use Rattle.partial_text.proofs.law.texts_determine_plans.Goals as goal
 
 pub returns-clause-read : goal.returns-clause-read
 returns-clause-read c = judged_again
