@@ -50,8 +50,8 @@ example() {
 }
 # Whether the calls by keys have the machine code of the calls by indices and one comparison.
 same_code() {
-    CARGO_TARGET_X86_64_UNKNOWN_LINUX_GNU_RUNNER=$PWD/tests/same_code.py \
-        cargo test --offline --quiet --release --lib --manifest-path bindings/rust/Cargo.toml
+    cargo test --offline --quiet --release --lib --manifest-path bindings/rust/Cargo.toml \
+        --config "target.'cfg(unix)'.runner = ['$PWD/tests/same_code.py']"
 }
 # Whether 64 threads soak a memory for a second without a fault, and their first calls are linearizable.
 soak() {

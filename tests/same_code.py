@@ -3,7 +3,7 @@
 
 PROGRAM is the optimised test of the crate for Rust. Cargo gives it to this script as to a runner:
 
-    CARGO_TARGET_X86_64_UNKNOWN_LINUX_GNU_RUNNER=$PWD/tests/same_code.py cargo test --release --lib
+    cargo test --release --lib --config "target.'cfg(unix)'.runner = ['$PWD/tests/same_code.py']"
 
 The functions of a pair, `keyed_NAME` and `by_hand_NAME`, have to have the same instructions in the same order, up to
 addresses and to which registers they use; where they call different functions, these have to be the same likewise. Two
