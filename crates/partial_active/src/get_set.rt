@@ -10,12 +10,9 @@ mod plain;
 
 use crate::found::Found;
 use partial_words::{
-    Sizes, Step, announcement_size, indices_word, intervals_word, list_size, next_word,
+    MOST_PORTS, Sizes, Step, announcement_size, indices_word, intervals_word, list_size, next_word,
 };
 use std::marker::Model;
-
-/// How many ports a memory has at most.
-const MOST_PORTS: u64 = 255;
 
 /// The stage of a getSet: the step that is due, and what it needs. `at` is the number of the word.
 #[derive(Clone, Copy, Debug, PartialEq, Eq)]
@@ -465,7 +462,7 @@ impl GetSet {
             Stage::Claim { .. } => {
                 u64::from(self.sizes.list_base()) <= x
                     && x <= u64::from(self.sizes.list_end())
-                        + MOST_PORTS * u64::from(self.sizes.greatest_list())
+                        + u64::from(MOST_PORTS) * u64::from(self.sizes.greatest_list())
             }
             Stage::Write { .. } | Stage::Publish { .. } | Stage::Done => true,
         }

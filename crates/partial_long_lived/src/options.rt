@@ -5,11 +5,8 @@ ghost use Rattle.partial_words.specs.Layout.{most_ports};
 ghost use Rattle.partial_long_lived.specs.Options.{IsShapeFor, IsShapeError, MayOpen, claim_room, claimed_pool};
 
 use crate::open_error::OpenError;
-use crate::shape::{MOST_AHEAD, Shape};
-use partial_words::{Sizes, full_record_size, plain_record_size};
-
-/// The most ports.
-const MOST_PORTS: u32 = 255;
+use crate::shape::Shape;
+use partial_words::{MOST_AHEAD, MOST_PORTS, Sizes, full_record_size, plain_record_size};
 
 /// The most slots.
 const MOST_SLOTS: u32 = 65_536;

@@ -4,7 +4,7 @@ ghost use Rattle.std.specs.Prelude.{◌≡◌, ◌-◌, ◌≤◌};
 ghost use Rattle.partial_words.specs.Layout.{most_ahead};
 ghost use Rattle.partial_long_lived.specs.Sized.{HasOffsets, IsSized, ahead_for};
 
-use partial_words::Sizes;
+use partial_words::{MOST_AHEAD, Sizes};
 
 /// The sizes of an arena, how many ports and arenas there are, and its pool limit.
 #[derive(Clone, Copy, Debug)]
@@ -24,9 +24,6 @@ pub struct Shape {
     pub ghost sized: { IsSized sizes ports arenas limit },
     pub ghost offsets: { HasOffsets sizes own carried },
 }
-
-/// The most words that a port claims beyond those of its record.
-pub const MOST_AHEAD: u64 = 93;
 
 impl Shape {
     /// How many words more than those of its record an update claims: those of 31 records without a view, or fewer, so that

@@ -313,17 +313,17 @@ impl Core {
         }
     }
 
-    /// Returns whether the spare words have room for the record of an update.
+    // Returns whether the spare words have room for the record of an update.
     #[inline(always)]
-    pub fn has_spare(&self) -> bool
+    fn has_spare(&self) -> bool
         ensures { result ≡ has_spare self.now }
     {
         self.record_size() <= self.spare.size
     }
 
-    /// Returns the number of words that an update claims for its record: its own, and those ahead.
+    // Returns the number of words that an update claims for its record: its own, and those ahead.
     #[inline(always)]
-    pub fn claim_size(&self) -> u64
+    fn claim_size(&self) -> u64
         ensures { result ≡ claim_size self.now }
     {
         self.record_size() + u64::from(self.ahead)

@@ -27,6 +27,6 @@ pub use record::{
     Link, full_record_size, next_word, own_view, pairs_word, plain_record_size, prev_of, prev_word,
     record_block_word, value_of, value_word, view_len, view_of, view_pair, view_size, view_word,
 };
-pub use sizes::{SizeError, Sizes};
+pub use sizes::{MOST_AHEAD, MOST_PORTS, SizeError, Sizes};
 pub use step::{Event, Step};
 pub use trace::Trace;

@@ -6,6 +6,13 @@ ghost use Rattle.partial_words.specs.Layout.{Layout};
 use std::marker::Model;
 use thiserror::Error;
 
+/// How many ports a memory has at most: so many seals fit above a reference.
+pub const MOST_PORTS: u32 = 255;
+
+/// How many words a port claims at most beyond those of the record that it is about to write: those of 31 records without
+/// a view.
+pub const MOST_AHEAD: u64 = 93;
+
 /// Which size is out of its range: the first one in this order. Nothing was made.
 #[derive(Clone, Copy, Debug, PartialEq, Eq, Error)]
 pub enum SizeError {
