@@ -60,7 +60,7 @@ opening_is_lawful z o words n opens few =
       tied = idle_all z (IsTied z words) (λ p. record {
         own = tt;
         spare = record { above = omega arith; within = omega (arith, room); below = omega (arith, pool) };
-        entering_from = λ c m. absurd (none_marked z p c m);
+        marked = λ c m. absurd (none_marked z p c m);
       }) 0 n;
       apart = subst (λ (l : List Block). EachTwo AreApart (record { at = pool_base z; size = initial_words z } ∷ l)) (sym blocks)
           (none_spared z (record { at = pool_base z; size = initial_words z }) (inl (omega arith)) 0 n, spares_open z 0 n);
