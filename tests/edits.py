@@ -21,10 +21,9 @@ stopped since it took too much time of a processor, refuses nothing.
 
 A goal could be open for what these calls lack alone, or since the answer that is written for it knows one form of the
 body. It isn't where values are found that break it. Any other goal is tried once more, by the prover's own search in
-the turned function: without its written answer, and with holes in place of the others. (In the crates of LEFT that
-isn't done yet where an answer is written.) So an equal body is not refused where values break nothing and the search
-proves the goal. Where the search proves it of no body, not even of the right one, an equal body of another form can't
-be distinguished from a wrong one: such an edit is for its readers to judge.
+the turned function: without its written answer, and with holes in place of the others. So an equal body is not refused
+where values break nothing and the search proves the goal. Where the search proves it of no body, not even of the right
+one, an equal body of another form can't be distinguished from a wrong one: such an edit is for its readers to judge.
 
 Much of a check's time passes before its first proof, so a crate's edits are tried together, in rounds of at most ROUND
 functions, in each of which no function is turned twice. The bodies of functions that a round doesn't turn stand empty in it,
@@ -56,8 +55,6 @@ from bodies import EMPTY, NEVER, NEVER_GOALS, functions_in, may_be_empty  # noqa
 from definitions import PARTS, SPENT  # noqa: E402
 
 TOP = Path(__file__).resolve().parent.parent
-# The crates whose edits weren't all tried yet by the prover's own search where an answer is written for the goal.
-LEFT = {'partial_door', 'partial_long_lived', 'partial_pipeline'}
 # The file of a crate with its edits.
 EDITS = 'edits.txt'
 KIT = Path(shutil.which('rt')).resolve().parent.parent
@@ -539,17 +536,12 @@ def without_verdict(status, said):
     return f'the check{bound} ended with status {status}' + ''.join(f'\n    {line}' for line in said.splitlines()[-3:])
 
 
-def is_left(name, function, goal):
-    """Whether the prover's own search isn't asked for this goal, since an answer is written for it and the crate is left."""
-    return name in LEFT and is_written(answers_of(TOP / 'crates' / name, function), goal)
-
-
-def in_doubt(name, edit, told, way):
+def in_doubt(edit, told, way):
     """The functions of an edit of which more has to be asked, by what its check says of each: one that refuses the edit,
     where no values break its goal; or one that lacks a goal which has a hole."""
     if way == TRIES:
         return frozenset(it for it, goal in edit.refused.items() if goal != MEASURE
-                         and not told.get(it, Told()).is_broken(goal) and not is_left(name, it, goal))
+                         and not told.get(it, Told()).is_broken(goal))
     return frozenset(it for it in edit.asked() if way == SEARCH and told.get(it, Told()).lacks_an_answer())
 
 
@@ -560,7 +552,7 @@ def try_round(name, members, status, said, way=TRIES):
     if why:
         return [(it.name, f'{name}/{it.name}: {why}') for it in members], []
     told, faults = told_by(name, said), []
-    doubts = [replace(it, doubtful=in_doubt(name, it, told, way)) for it in members]
+    doubts = [replace(it, doubtful=in_doubt(it, told, way)) for it in members]
     for edit, doubt in zip(members, doubts):
         for function, goal in edit.asked().items():
             tried = tries(answers_of(TOP / 'crates' / name, function), goal) if way == TRIES else []
