@@ -66,7 +66,7 @@ const fn alone_and_long(name: &'static str, run: fn(&str) -> Sample) -> Bench {
     Bench { rounds: 1, ..alone(name, run) }
 }
 
-pub const BENCHES: [Bench; 25] = [
+pub const BENCHES: [Bench; 26] = [
     alone("read, 1 thread", |name| timed(name, 1, PARTS, rest, read)),
     alone("read by a key, 1 thread", |name| by_keys(name, PARTS, read)),
     speed("read, 4 threads", |name| timed(name, 4, PARTS, rest, read)),
@@ -74,6 +74,7 @@ pub const BENCHES: [Bench; 25] = [
     alone("update by a key, 1 thread, nobody scans", |name| by_keys(name, PARTS, update)),
     alone_and_large("update, 1 thread, 16,384 components", |name| of_many(name, PARTS, update_of::<MANY_M>)),
     Bench { rounds: ROUNDS_OF_MANY, ..alone("update, 1 thread, 100 million of them", many) },
+    speed("update, 2 threads, nobody scans", |name| timed(name, 2, PARTS, rest, update)),
     speed("update, 4 threads, nobody scans", |name| timed(name, 4, PARTS, rest, update)),
     alone("update, 1 thread, after scans", |name| timed(name, 1, PARTS, scan_often, update)),
     alone_and_long("update, 1 thread, after scans, no list words left", without_lists),
