@@ -61,8 +61,8 @@ module _ (e : Plan) (words : List ℕ) (ports : ℕ → Port) (b : Beside) (w : 
   word_is : slice_index (control_words e words) (at_word q) ≡ slice_index words (at_word q)
   word_is = at_of (λ i. slice_index words i) 0 (control_size e) (at_word q) (omega (arith, low)) ∙ ap (λ i. slice_index words i) (omega arith)
 
-  pub unentering_site : slice_index words (at_word q) < entering_bit → (slice_index words (at_word q) ≡ packed (unpacked (slice_index words (at_word q)))) × IsSite e (unpacked (slice_index words (at_word q)))
-  unentering_site less = by (ports q).control.entering (w.control.at q low)
+  pub site_without_bit : slice_index words (at_word q) < entering_bit → (slice_index words (at_word q) ≡ packed (unpacked (slice_index words (at_word q)))) × IsSite e (unpacked (slice_index words (at_word q)))
+  site_without_bit less = by (ports q).control.entering (w.control.at q low)
     where
       named : (c : Site) → IsSite e c → slice_index words (at_word q) ≡ packed c →
           (slice_index words (at_word q) ≡ packed (unpacked (slice_index words (at_word q)))) × IsSite e (unpacked (slice_index words (at_word q)))
@@ -118,7 +118,7 @@ module _ (a : About) (words : List ℕ) (ports : ℕ → Port) (notes : ℕ → 
       Owns words' (elsewhere (slice_index words (at_word o.clean)) o) (contention_there (slice_index words (at_word o.clean)) o u)
   finds_elsewhere words' same less =
       let n : ℕ = slice_index words (at_word o.clean) in
-      let there = unentering_site (plan_of a) words ports b w.epochs o.clean more less in
+      let there = site_without_bit (plan_of a) words ports b w.epochs o.clean more less in
       let P : Bool → Type 0 = λ t. Owns words' (if t then o else at_next_port o) (if t then meeting u else u) in
       (elim (eqb_tells (unpacked n).arena o.arena) [
         | inl is ↦ subst P (sym is.0) (finds_there words' same is.1)

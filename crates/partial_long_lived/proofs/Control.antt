@@ -275,9 +275,9 @@ module _ {S : Type 0} (a : About) (slots id : ℕ) (me : Me S (List SeatedPort))
       moved_quietly a words (slice_set words i (f n)) ports notes b reckoned x w s known (g n) (quiet n) x.began s.began to (R x n) (says words ports b w.epochs s.number s.port))
 
   -- the first step of entering
-  pub may_entering : x.port.control.entering ≡ Stands → x.port.control.past ≡ true → x.port.control.owned ≡ None →
+  pub may_store_entering : x.port.control.entering ≡ Stands → x.port.control.past ≡ true → x.port.control.owned ≡ None →
       Allows (IsRuleKept a) slots id me (at_word x.number) (λ n. entering_from x.port.control.here) (tells StoresEnteringWord me)
-  may_entering stands past none = quietly (at_word x.number) (λ n. entering_from x.port.control.here) (λ n. stored_entering) StoresEnteringWord
+  may_store_entering stands past none = quietly (at_word x.number) (λ n. entering_from x.port.control.here) (λ n. stored_entering) StoresEnteringWord
       (λ n. record { part = λ p. refl; before = λ p. refl; here = λ p. refl; passed = λ p. omega arith })
       (λ words ports notes b reckoned w time below is entering come.
       let k : ℕ = x.number in
@@ -290,15 +290,15 @@ module _ {S : Type 0} (a : About) (slots id : ℕ) (me : Me S (List SeatedPort))
 
   -- the second
   pub may_load : x.port.control.entering ≡ StoredEntering → Allows (IsRuleKept a) slots id me current_word (λ n. n) (tells LoadsCurrent me)
-  may_load enterings_it = quietly current_word (λ n. n) (λ n. loads (unpacked n)) LoadsCurrent (λ n. record { part = λ p. refl; before = λ p. refl; here = λ p. refl; passed = λ p. omega arith })
+  may_load stores_it = quietly current_word (λ n. n) (λ n. loads (unpacked n)) LoadsCurrent (λ n. record { part = λ p. refl; before = λ p. refl; here = λ p. refl; passed = λ p. omega arith })
       (λ words ports notes b reckoned w time below is entering come.
       let k : ℕ = x.number in
       let n : ℕ = slice_index words current_word in
-      let marks' = ap (λ (p : Port). p.control.entering) (sym is) ∙ enterings_it in
+      let marks' = ap (λ (p : Port). p.control.entering) (sym is) ∙ stores_it in
       by_move a words ports notes b reckoned w time k below x.began move.LoadsCurrent marks' tt refl (λ p c n is. is) (λ q ne. refl) (slice_set words current_word n) (load_same words current_word)
       (loads (unpacked n) (ports k)) refl (subst (λ (t : Entering). IsSince x.began t (reckoned.since k)) marks' entering))
       (λ words ports b w below is.
-      let to = entries_load (plan_of a) words ports b x.number w below (ap (λ (p : Port). p.control.entering) (sym is) ∙ enterings_it) in
+      let to = entries_load (plan_of a) words ports b x.number w below (ap (λ (p : Port). p.control.entering) (sym is) ∙ stores_it) in
       let site : unpacked (slice_index words current_word) ≡ site_now b = ap unpacked to.0 ∙ unpacked_is (site_now b) w.plan.arenas w.control.site.arena in (
         to.0 ∙ ap packed (sym site),
         subst (λ (z : About). IsSite (plan_of z) (unpacked (slice_index words current_word))) (sym own) (subst (IsSite (plan_of a)) (sym site) w.control.site),

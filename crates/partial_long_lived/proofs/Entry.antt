@@ -1,5 +1,5 @@
 -- How a port enters an epoch, step by step.
-use Rattle.partial_long_lived.proofs.{Common.{ℕ, ◌≡◌, ◌+◌, ◌==◌, List, sym, ap, subst, ◌∙◌, arith, either, Me, Allows, TableId, at_word, entering_from, packed, About, Stand, IsRuleKept, SeatedPort, one_of, tells, IsHeld, port_at, SeatArrives, LoadsCurrent, StoresEnteringWord, unpacked, MayEnter}, Control.{may_load, may_entering}, Enters.may_arrive, Standing.site_is}
+use Rattle.partial_long_lived.proofs.{Common.{ℕ, ◌≡◌, ◌+◌, ◌==◌, List, sym, ap, subst, ◌∙◌, arith, either, Me, Allows, TableId, at_word, entering_from, packed, About, Stand, IsRuleKept, SeatedPort, one_of, tells, IsHeld, port_at, SeatArrives, LoadsCurrent, StoresEnteringWord, unpacked, MayEnter}, Control.{may_load, may_store_entering}, Enters.may_arrive, Standing.site_is}
 
 module _ (table : TableId) (about : About) (s : Stand) (h : IsHeld table about s) where
   -- the entering word that is stored
@@ -14,7 +14,7 @@ module _ (table : TableId) (about : About) (s : Stand) (h : IsHeld table about s
   entering_asked may slots id entering_word is =
       subst (λ i. Allows (IsRuleKept about) slots id s.seat.me i (λ n. 9223372036854775808 + entering_word) (tells StoresEnteringWord s.seat.me)) (sym word_is)
       (subst (λ v. Allows (IsRuleKept about) slots id s.seat.me (at_word (port_at s).number) (λ n. v) (tells StoresEnteringWord s.seat.me)) (sym (entering_is entering_word is))
-      (may_entering about slots id s.seat.me h.one h.own h.known may.stands may.past may.free))
+      (may_store_entering about slots id s.seat.me h.one h.own h.known may.stands may.past may.free))
 
   -- the port after the first step
   module _ (me : Me (Unit {0}) (List SeatedPort)) (a : ℕ) (told : tells StoresEnteringWord s.seat.me a me) where

@@ -81,7 +81,7 @@ fn put_port(words: &Words, stand: &mut Stand, arena: u32, port: u32, entering_wo
     requires held { IsHeld words.now.table_id words.now.key stand.old }
     requires may { MayPutPort stand.old arena port entering_word }
     requires searches { Searches false arena stand.old }
-    requires entering_from { 9223372036854775808 ≤ entering_word }
+    requires bit { 9223372036854775808 ≤ entering_word }
     requires inside { port < words.now.key.ports }
     ensures held { IsHeld words.now.table_id words.now.key stand.new }
     ensures remains { Remains stand.old stand.new }

@@ -27,6 +27,7 @@ abbrev pub counted_steps : {V : Type 0} → List (Counted V) → ℕ
 counted_steps [] = 0
 counted_steps (c ∷ cs) = c.steps
 
+-- a badge of a table, by the views of the seat that it has, if it has one
 abbrev pub badge_view : {V : Type 0} → TableId → List (Counted V) → BadgeView V
 badge_view table views = record { table_id = table; views = map plain_view views; steps = counted_steps views }
 
