@@ -302,9 +302,8 @@ static void *calls(void *given)
     stamps_of(it->port, stamps);
     for (int turn = 0; turn < TURNS; turn++) {
         enum kind kind = (enum kind)(turn % KINDS);
-        uint64_t made = call(it->port, kind, stamps);
-        it->most[kind] = greater(it->most[kind], made);
-        call(it->port, UPDATES, stamps);
+        it->most[kind] = greater(it->most[kind], call(it->port, kind, stamps));
+        it->most[UPDATES] = greater(it->most[UPDATES], call(it->port, UPDATES, stamps));
     }
     return NULL;
 }
