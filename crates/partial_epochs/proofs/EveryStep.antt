@@ -113,11 +113,11 @@ module _ (e : Plan) (words : List ℕ) (ports : ℕ → Port) (b : Beside) (note
 
   pub every_step : (m : Move) → MayMove e words ports b notes k m → MoveLeads e words (moved_words e words (ports k) k m) ports b notes k m
   every_step Rests may = rests Rests (λ there is. is) (λ since. refl) (λ a. (refl, a, refl))
-  every_step (Makes c step more) may = elim (machine_steps_stay_lawful e words ports b k c step w.epochs below may.0 may.1 may.2 may.3) [
+  every_step (Makes c step more) may = elim (machine_steps_stay_lawful e words ports b k c step w.epochs below may.0 may.1 may.2 may.3 may.4) [
     | inl met ↦ subst (λ (l : List ℕ). MoveLeads e words l ports b notes k (Makes c step more)) (sym met.1) (rests (Makes c step more) (λ there is. is) (λ since. refl) (λ a. inl (met.0, met.1, refl, refl, refl)))
     | inr lead ↦
         let added : List Noted = noted_after e (ports k) more lead.tells.new in
-        let what = may.4 lead in
+        let what = may.5 lead in
         noted (Makes c step more) (λ there is. is) (moved_words e words (ports k) k (Makes c step more)) lead.port lead.beside added (public_log (length b.before) lead.entries)
         (ap (λ (t : Control). t.here) lead.control) (history_is e words ports b notes k c step w below may.0 lead added what)
         (adds_of e words ports b notes k c step w below may.0 lead added what more) (keeps_machine c step more lead) (notes_stay_lawful e words ports b notes k c step w below may.0 lead added what)

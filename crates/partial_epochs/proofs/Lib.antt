@@ -7,6 +7,7 @@ pub mod Apart
 pub mod Worded
 pub mod ClearRecords
 pub mod Slots
+pub mod Silent
 pub mod MachineSteps
 pub mod Room
 pub mod Seals

@@ -1,8 +1,9 @@
 -- Each due step of a machine in the arena where its port stands keeps the lawful state of all epochs.
 use Rattle.std.proofs.lemmas.Bool.{eq-eqb, ne_eqb}
-use Rattle.partial_epochs.proofs.{Common.{ℕ, ◌≡◌, ◌≢◌, ◌+◌, ◌*◌, ◌%◌, ◌^◌, ◌<◌, ◌≤◌, ◌==◌, ◌⊎◌, ◌++◌, Bool, true, false, if◌then◌else◌, Some, List, [], ◌∷◌, length, slice_index, slice_set, refl, sym, ap, subst, ◌∙◌, inl, inr, arith, ◌&&◌, ◌||◌, nat_lt, AllByRecursion, cases_lt, lt-ltb, eqb_tells, get_or-set_same, get_or-set_other, Applied, Opening, Step, Load, Store, Exchange, Add, Layout, total, pool_counter, slot_counter, greatest_claim, answer_of, word_of, words_after, CoreState, advance, step_of, Part, PartAmong, IsMachineOf, port_of, LeadsOn, added_by, lawful_machines_are_ready, steps_stay_lawful, count, list_of, put, Plan, arena_words, carried_words, component_words, based_step, opened_after, Port, Epoch, Beside, IsArena, IsStanding, LawfulEpochs, IsPresent, awaits_slot, claims_no_more, slot_limit, mul-le-mul_left, MachineLeads, MachineStepsStayLawful, MayClaim, MeetsSeal, ends_over, Stands, not_below, value_word}, Apart.{IsApart, due_apart}, Change.{Changes, beside_then, change_kept}, Lists.{Around, around_of, count_more, count_one, count_same, length_of, put_all, put_other, put_same}, Offsets.below_whole, Present.{by_seal, standing}, Slots.{MayClaimWords, awaits, awaits_same, counted, done, one}, Worded.{Words, worded}}
+use Rattle.partial_epochs.proofs.{Common.{ℕ, ◌≡◌, ◌≢◌, ◌+◌, ◌*◌, ◌%◌, ◌^◌, ◌<◌, ◌≤◌, ◌==◌, ◌⊎◌, ◌++◌, Bool, true, false, if◌then◌else◌, Some, List, [], ◌∷◌, length, slice_index, slice_set, refl, sym, ap, subst, ◌∙◌, inl, inr, arith, ◌&&◌, ◌||◌, nat_lt, AllByRecursion, cases_lt, lt-ltb, eqb_tells, get_or-set_same, get_or-set_other, Applied, Opening, Step, Load, Store, Exchange, Add, Layout, total, pool_counter, slot_counter, answer_of, word_of, words_after, CoreState, advance, step_of, Part, PartAmong, IsMachineOf, port_of, LeadsOn, added_by, lawful_machines_are_ready, steps_stay_lawful, count, list_of, put, Plan, greatest_claim_of, arena_words, carried_words, component_words, based_step, opened_after, Port, Epoch, Beside, FindsNone, IsArena, IsStanding, LawfulEpochs, IsPresent, awaits_slot, claims_no_more, slot_limit, mul-le-mul_left, MachineLeads, MachineStepsStayLawful, MayClaim, MeetsSeal, ends_over, MayScan, Stands, core_of, not_below, value_word}, Apart.{IsApart, due_apart}, Change.{Changes, beside_then, change_kept}, Lists.{Around, around_of, count_more, count_one, count_same, length_of, put_all, put_other, put_same}, Offsets.below_whole, Present.{by_seal, standing}, Silent.{ClaimsPlainly, ClaimsWithin, apart_within, finds_then, machine_finds, plain_due, plain_keeps, plain_within, shows_no_slot}, Slots.{MayClaimWords, awaits, awaits_same, counted, done, one}, Worded.{Words, worded}}
 use Rattle.partial_core.specs.Lawful as one
 use Rattle.partial_core.specs.Steps.{StepShows}
+use Rattle.partial_epochs.specs.Epochs.{IsSilent}
 
 or_none : (b c : Bool) → c ≡ false → (b || c) ≡ b
 or_none true c e = refl
@@ -19,9 +20,9 @@ or_last false false c e = e
 
 -- The reserve: a claim that ends past the limit is its port's last.
 module _ (e : Plan) (words : List ℕ) (over : ℕ → Bool) (k : ℕ) (below : k < e.ports) (there : pool_counter e.sizes < length words)
-    (reserve : slice_index words (pool_counter e.sizes) ≤ e.limit + greatest_claim e.sizes * count over 0 e.ports) where
+    (reserve : slice_index words (pool_counter e.sizes) ≤ e.limit + greatest_claim_of e * count over 0 e.ports) where
   abbrev Reserved : Bool → List ℕ → Type 0
-  Reserved v words' = slice_index words' (pool_counter e.sizes) ≤ e.limit + greatest_claim e.sizes * count (put k v over) 0 e.ports
+  Reserved v words' = slice_index words' (pool_counter e.sizes) ≤ e.limit + greatest_claim_of e * count (put k v over) 0 e.ports
 
   unchanged : (v : Bool) → v ≡ over k → count (put k v over) 0 e.ports ≡ count over 0 e.ports
   unchanged v is = count_same (put k v over) over 0 e.ports (λ i low high. put_all (λ j u. u ≡ over j) k v over i (λ _. is) (λ _. refl))
@@ -41,16 +42,16 @@ module _ (e : Plan) (words : List ℕ) (over : ℕ → Bool) (k : ℕ) (below : 
 
   reserved_same : (v : Bool) (words' : List ℕ) → (over k ≡ true → v ≡ true) → slice_index words' (pool_counter e.sizes) ≡ slice_index words (pool_counter e.sizes) → Reserved v words'
   reserved_same v words' up same =
-      let times : greatest_claim e.sizes * count over 0 e.ports ≤ greatest_claim e.sizes * count (put k v over) 0 e.ports = mul-le-mul_left (greatest_claim e.sizes) (rises v up) in
+      let times : greatest_claim_of e * count over 0 e.ports ≤ greatest_claim_of e * count (put k v over) 0 e.ports = mul-le-mul_left (greatest_claim_of e) (rises v up) in
       omega (arith, times, same, reserve)
 
-  reserved_by : (step : Step) → IsApart e.sizes step → MayClaim e (over k) step → Reserved (over k || ends_over e words step) (words_after words step)
-  reserved_by (Load w) apart may = reserved_same (over k || false) words (or_more (over k) false) refl
-  reserved_by (Store w v) apart may = reserved_same (over k || false) (slice_set words w v) (or_more (over k) false)
+  reserved_by : (step : Step) → IsApart e.sizes step → MayClaim e (over k) step → ClaimsWithin e step → Reserved (over k || ends_over e words step) (words_after words step)
+  reserved_by (Load w) apart may within = reserved_same (over k || false) words (or_more (over k) false) refl
+  reserved_by (Store w v) apart may within = reserved_same (over k || false) (slice_set words w v) (or_more (over k) false)
       (get_or-set_other words w (pool_counter e.sizes) v 0 (omega (arith, apart)))
-  reserved_by (Exchange w old new) apart may = reserved_same (over k || false) (words_after words (Exchange w old new)) (or_more (over k) false)
+  reserved_by (Exchange w old new) apart may within = reserved_same (over k || false) (words_after words (Exchange w old new)) (or_more (over k) false)
       (get_or-set_other words w (pool_counter e.sizes) (if slice_index words w == old then new else slice_index words w) 0 (omega (arith, apart)))
-  reserved_by (Add w n) apart may = elim (eqb_tells w (pool_counter e.sizes)) [
+  reserved_by (Add w n) apart may within = elim (eqb_tells w (pool_counter e.sizes)) [
     | inl same ↦ claimed same.0 same.1
     | inr other ↦
         let ne = other.1 in
@@ -62,7 +63,7 @@ module _ (e : Plan) (words : List ℕ) (over : ℕ → Bool) (k : ℕ) (below : 
       claimed : (w == pool_counter e.sizes) ≡ true → w ≡ pool_counter e.sizes → Reserved (over k || ends_over e words (Add w n)) (words_after words (Add w n))
       claimed test is =
           let at : slice_index words w ≡ slice_index words (pool_counter e.sizes) = ap (λ i. slice_index words i) is in
-          let few : n ≤ greatest_claim e.sizes = omega (arith, apart, is) in
+          let few : n ≤ greatest_claim_of e = within is in
           let found : slice_index (words_after words (Add w n)) (pool_counter e.sizes) ≡ (slice_index words w + n) % 2 ^ 64 =
           ap (λ i. slice_index (words_after words (Add w n)) i) (sym is) ∙ get_or-set_same words w ((slice_index words w + n) % 2 ^ 64) 0 (subst (λ i. i < length words) (sym is) there) in
           let less : (slice_index words w + n) % 2 ^ 64 ≤ slice_index words w + n = omega arith in
@@ -78,11 +79,11 @@ module _ (e : Plan) (words : List ℕ) (over : ℕ → Bool) (k : ℕ) (below : 
                 let on : put k v over k ≡ true = put_same k v over ∙ v_is ∙ lt-ltb e.limit (slice_index words w + n) past in
                 let more : count (put k v over) 0 e.ports ≡ count over 0 e.ports + 1 =
                 count_more over (put k v over) 0 e.ports k (omega arith) (omega (arith, below)) free on (λ i ne. put_other k v over i ne) in
-                let times : greatest_claim e.sizes * count (put k v over) 0 e.ports ≡ greatest_claim e.sizes * (count over 0 e.ports + 1) = ap (λ q. greatest_claim e.sizes * q) more in
+                let times : greatest_claim_of e * count (put k v over) 0 e.ports ≡ greatest_claim_of e * (count over 0 e.ports + 1) = ap (λ q. greatest_claim_of e * q) more in
                 omega (arith, found, less, reserve, at, few, times)
             | inr within ↦
                 let off : v ≡ over k = v_is ∙ not_below e.limit (slice_index words w + n) within ∙ sym free in
-                let times : greatest_claim e.sizes * count (put k v over) 0 e.ports ≡ greatest_claim e.sizes * count over 0 e.ports = ap (λ q. greatest_claim e.sizes * q) (unchanged v off) in
+                let times : greatest_claim_of e * count (put k v over) 0 e.ports ≡ greatest_claim_of e * count over 0 e.ports = ap (λ q. greatest_claim_of e * q) (unchanged v off) in
                 omega (arith, found, less, within, times)
           ]
 
@@ -100,7 +101,8 @@ added_own z p words (Exchange v old new) = by (nat_lt v z.m) (slice_index words 
     by false c = tt
 
 module _ (e : Plan) (words : List ℕ) (ports : ℕ → Port) (b : Beside) (k : ℕ) (c : CoreState) (step : Step) (w : LawfulEpochs e words ports b) (below : k < e.ports)
-    (stands : (ports k).control.entering ≡ Stands) (machine : IsMachineOf c (ports k).part) (due : step_of c ≡ Some step) (may : MayClaim e (ports k).over step) where
+    (stands : (ports k).control.entering ≡ Stands) (machine : IsMachineOf c (ports k).part) (due : step_of c ≡ Some step) (may : MayClaim e (ports k).over step)
+    (scans : MayScan e c) where
   abbrev s : IsStanding b k (ports k)
   s = standing e words ports b k w below stands
 
@@ -140,6 +142,31 @@ module _ (e : Plan) (words : List ℕ) (ports : ℕ → Port) (b : Beside) (k : 
 
   low : word_of step < total e.sizes
   low = let within = leads.answers.within in let count = length_of (λ i. i) 0 0 in subst (λ n. word_of step < n) lawful_here.memory.count within
+
+  -- where scans don't announce themselves the machine finds none, and what holds there is kept
+  finds : e.announces ≡ false → FindsNone c
+  finds off = machine_finds c (r.part k) machine_here ((arena.silent off).finds k below) (scans off)
+
+  plain_step : e.announces ≡ false → ClaimsPlainly e.sizes step
+  plain_step off = let ready = lawful_machines_are_ready e.sizes o m c lawful_here machine_here in plain_due e.sizes c ready.sizes ready.sound (finds off) step due
+
+  claims_within : ClaimsWithin e step
+  claims_within = by e.announces refl
+    where
+      by : (v : Bool) → e.announces ≡ v → ClaimsWithin e step
+      by true on = apart_within e on step apart
+      by false off = plain_within e off step (plain_step off)
+
+  silent_then : e.announces ≡ false → IsSilent e (words_after bw step) (put k leads.y r.part)
+  silent_then off =
+      let was = arena.silent off in
+      let ready = lawful_machines_are_ready e.sizes o m c lawful_here machine_here in
+      let on : FindsNone (core_of leads.y) = subst FindsNone leads.tells.machine.is
+      (finds_then e.sizes c ready.sizes ready.sound (answer_of bw step) (finds off) step due (shows_no_slot e.sizes bw was.unclaimed step)) in
+      record {
+        unclaimed = plain_keeps e.sizes bw step apart (plain_step off) ∙ was.unclaimed;
+        finds = λ q inside. put_all (λ i (y : Part). i < e.ports → FindsNone (core_of y)) k leads.y r.part q (λ _ _. on) (λ _ inside. was.finds q inside) inside;
+      }
 
   abbrev entries : List Applied
   entries = added_by e.sizes (port_of (r.part k)) bw step
@@ -231,13 +258,14 @@ module _ (e : Plan) (words : List ℕ) (ports : ℕ → Port) (b : Beside) (k : 
           few = λ j inside. let same = (h.seals j inside).0 in let few = arena.few j inside in omega (arith, same, few);
           passed = λ q j in_ports in_passed inside. (h.seals j inside).1 (arena.passed q j in_ports in_passed inside);
           sealed = λ finished j inside. (h.seals j inside).1 (arena.sealed finished j inside);
-          reserve = subst (λ (l : List ℕ). slice_index l (pool_counter e.sizes) ≤ e.limit + greatest_claim e.sizes * count (put k over' r.over) 0 e.ports) (sym h.arena)
-              (subst (λ (v : Bool). slice_index (words_after bw step) (pool_counter e.sizes) ≤ e.limit + greatest_claim e.sizes * count (put k v r.over) 0 e.ports) (sym same_over)
-              (reserved_by e bw r.over k below there arena.reserve step apart claim));
+          reserve = subst (λ (l : List ℕ). slice_index l (pool_counter e.sizes) ≤ e.limit + greatest_claim_of e * count (put k over' r.over) 0 e.ports) (sym h.arena)
+              (subst (λ (v : Bool). slice_index (words_after bw step) (pool_counter e.sizes) ≤ e.limit + greatest_claim_of e * count (put k v r.over) 0 e.ports) (sym same_over)
+              (reserved_by e bw r.over k below there arena.reserve step apart claim claims_within));
           slots = subst (λ (l : List ℕ). slice_index l (slot_counter e.sizes)
               ≤ slot_limit e + count (λ q. claims_no_more (put k over' r.over q) (put k leads.y r.part q)) 0 e.ports) (sym h.arena)
               (subst (λ (v : Bool). slice_index (words_after bw step) (slot_counter e.sizes)
               ≤ slot_limit e + count (λ q. claims_no_more (put k v r.over q) (put k leads.y r.part q)) 0 e.ports) (sym same_over) slots_then);
+          silent = λ off. subst (λ (l : List ℕ). IsSilent e l (put k leads.y r.part)) (sym h.arena) (silent_then off);
         }
 
     changes : Changes e words b k x (ports k) r words' p' r' entries
@@ -305,4 +333,4 @@ module _ (e : Plan) (words : List ℕ) (ports : ℕ → Port) (b : Beside) (k : 
   ]
 
 pub machine_steps_stay_lawful : MachineStepsStayLawful
-machine_steps_stay_lawful e words ports b k c step w below stands machine due may = machine_kept e words ports b k c step w below stands machine due may
+machine_steps_stay_lawful e words ports b k c step w below stands machine due may scans = machine_kept e words ports b k c step w below stands machine due may scans

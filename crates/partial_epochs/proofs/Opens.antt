@@ -35,11 +35,16 @@ opening_agrees s o words opens j below =
     let count : length words ≡ total s = opens.count in
     (named ∙ sym stamp, (record { stamp = stamp ∙ sym named; within = omega (arith, named, count, pool, in'); value = ap (slice_index words) next ∙ value }, ap (slice_index words) before ∙ prev))
 
+-- no slot is claimed
+pub no_slot_claimed : (z : Layout) (o : Opening) (words : List ℕ) → OpensOver z o words → slice_index words (slot_counter z) ≡ 0
+no_slot_claimed z o words opens =
+    let some = opens.sizes.slots.0 in opens.each (slot_counter z) (omega (arith, some)) (inl (omega (arith, some))) ∙ slot_opens z o.values some
+
 opening_is_lawful : (z : Layout) (o : Opening) (words : List ℕ) (n : ℕ) → OpensOver z o words → n ≤ most_ports → LawfulWords z o words (idle_holdings z 0 n) []
 opening_is_lawful z o words n opens few =
     let some = opens.sizes.slots.0 in
     let pool : slice_index words (pool_counter z) ≡ first_free z = opens.each (pool_counter z) (omega (arith, some)) (inl (omega (arith, some))) ∙ pool_opens z o.values in
-    let slots : slice_index words (slot_counter z) ≡ 0 = opens.each (slot_counter z) (omega (arith, some)) (inl (omega (arith, some))) ∙ slot_opens z o.values some in
+    let slots = no_slot_claimed z o words opens in
     let head : slice_index words (list_head z) ≡ 0 = opens.each (list_head z) (omega (arith, some)) (inl (omega (arith, some))) ∙ list_opens z o.values some in
     let lists : slice_index words (list_counter z) ≡ list_base z = opens.each (list_counter z) (omega (arith, some)) (inl (omega (arith, some))) ∙ lists_open z o.values some in
     let room = opens.sizes.pool.0 in

@@ -1,5 +1,5 @@
 -- A memory opens lawful.
-use Rattle.partial_epochs.proofs.{Common.{ℕ, ◌≡◌, ◌≢◌, ◌+◌, ◌<◌, ◌≤◌, ◌⊎◌, Some, None, List, [], length, slice_index, refl, sym, ap, subst, ◌∙◌, inl, inr, arith, option_map, cases_lt, eqb_tells, some_same, first_free, pool_counter, slot_counter, total, Part, Plan, arena_words, base, carried_word, carried_words, component_words, control_size, control_words, plain, seal, Epoch, LawfulControl, Beside, IsArena, LawfulEpochs, controls, numbers, site_now, EpochsOpenLawful, OpensAll, first_beside, first_site, first_ports, first_epoch, nothing_held, OpensOver, opening_component, pool_opens, slot_opens}, Lists.{at_of, length_of, put_other, put_same}, Opens.opens_over, Offsets.packed_arena, Publishes.fresh_list, Worded.{component_at, plain_at, plain_component, plain_other}}
+use Rattle.partial_epochs.proofs.{Common.{ℕ, ◌≡◌, ◌≢◌, ◌+◌, ◌<◌, ◌≤◌, ◌⊎◌, Some, None, List, [], length, slice_index, refl, sym, ap, subst, ◌∙◌, inl, inr, arith, option_map, cases_lt, eqb_tells, some_same, first_free, pool_counter, total, Part, Plan, arena_words, base, carried_word, carried_words, component_words, control_size, control_words, plain, seal, Epoch, LawfulControl, Beside, IsArena, LawfulEpochs, controls, numbers, site_now, EpochsOpenLawful, OpensAll, first_beside, first_site, first_ports, first_epoch, nothing_held, OpensOver, opening_component, pool_opens}, Lists.{at_of, length_of, put_other, put_same}, Opens.{no_slot_claimed, opens_over}, Offsets.packed_arena, Publishes.fresh_list, Worded.{component_at, plain_at, plain_component, plain_other}}
 use Rattle.partial_core.specs.Lawful as one
 
 module _ (e : Plan) (words : List ℕ) (w : OpensAll e words) where
@@ -40,12 +40,8 @@ module _ (e : Plan) (words : List ℕ) (w : OpensAll e words) where
         let is : slice_index (arena_words e words 0) (pool_counter e.sizes) ≡ first_free e.sizes =
         opens.each (pool_counter e.sizes) (omega (arith, some_slots, some_components)) (inl (omega (arith, some_slots))) ∙ pool_opens e.sizes e.opening.values in
         omega (arith, is, room);
-    slots =
-        let some_slots = w.plan.sizes.slots.0 in
-        let some_components = w.plan.sizes.components.0 in
-        let claimed : slice_index (arena_words e words 0) (slot_counter e.sizes) ≡ 0 = opens.each (slot_counter e.sizes) (omega (arith, some_slots, some_components)) (inl (omega (arith, some_slots)))
-        ∙ slot_opens e.sizes e.opening.values some_slots in
-        omega (arith, claimed);
+    slots = let claimed = no_slot_claimed e.sizes e.opening (arena_words e words 0) opens in omega (arith, claimed);
+    silent = λ off. record { unclaimed = no_slot_claimed e.sizes e.opening (arena_words e words 0) opens; finds = λ q low. tt };
   }
 
   abbrev b : Beside

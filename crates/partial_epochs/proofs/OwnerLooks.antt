@@ -1,5 +1,5 @@
 -- A port that owns an arena looks; and the claims of a port that is within the limit have room.
-use Rattle.partial_epochs.proofs.{Common.{ℕ, zero, suc, ◌≡◌, ◌≢◌, ◌+◌, ◌*◌, ◌<◌, ◌≤◌, ◌==◌, ◌⊎◌, Bool, true, false, if◌then◌else◌, Option, Some, None, IfSome, List, slice_index, refl, sym, ap, subst, ◌∙◌, inl, inr, arith, eqb_tells, mul-le-mul_left, greatest_claim, count, put, Plan, Site, IsSite, at_word, control_words, entering_from, Control, Entering, OwnedArena, IsSiteWord, IsEarlier, IsOld, IsOut, IsOwner, LawfulControl, MayPut, NotInto, IsSetting, controls, numbers, site_now, ClaimsHaveRoom, OwnersLook, having_looked, Stands, StoredEntering, Loaded}, Entering.{control_lifted, current_is}, Lists.{put_all, put_other}, Offsets.packed_arena, Present.present}
+use Rattle.partial_epochs.proofs.{Common.{ℕ, zero, suc, ◌≡◌, ◌≢◌, ◌+◌, ◌*◌, ◌<◌, ◌≤◌, ◌==◌, ◌⊎◌, Bool, true, false, if◌then◌else◌, Option, Some, None, IfSome, List, slice_index, refl, sym, ap, subst, ◌∙◌, inl, inr, arith, eqb_tells, mul-le-mul_left, greatest_claim_of, count, put, Plan, Site, IsSite, at_word, control_words, entering_from, Control, Entering, OwnedArena, IsSiteWord, IsEarlier, IsOld, IsOut, IsOwner, LawfulControl, MayPut, NotInto, IsSetting, controls, numbers, site_now, ClaimsHaveRoom, OwnersLook, having_looked, Stands, StoredEntering, Loaded}, Entering.{control_lifted, current_is}, Lists.{put_all, put_other}, Offsets.packed_arena, Present.present}
 
 module _ (e : Plan) (words : List ℕ) (cs : ℕ → Control) (now : Site) (holds : ℕ → Option ℕ) (w : LawfulControl e words cs now holds) (k : ℕ) (below : k < e.ports) (o : OwnedArena)
     (owned : (cs k).owned ≡ Some o) (is_now : (cs k).here ≡ now) (entering_words : (o.entering_word ≡ None) ⊎ (o.clean < e.ports)) where
@@ -142,5 +142,5 @@ claims_have_room e words ports b k w below stands free =
     let reserve = arena.reserve in
     let limit = w.plan.limit in
     let less : count s.epoch.over 0 e.ports + 1 ≤ e.ports = count_less s.epoch.over 0 e.ports k (omega arith) (omega (arith, below)) (s.over ∙ free) in
-    let times : greatest_claim e.sizes * (count s.epoch.over 0 e.ports + 1) ≤ greatest_claim e.sizes * e.ports = mul-le-mul_left (greatest_claim e.sizes) less in
+    let times : greatest_claim_of e * (count s.epoch.over 0 e.ports + 1) ≤ greatest_claim_of e * e.ports = mul-le-mul_left (greatest_claim_of e) less in
     omega (arith, reserve, limit, times)

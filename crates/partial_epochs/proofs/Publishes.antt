@@ -1,5 +1,5 @@
 -- The exchange of the current word opens the next epoch.
-use Rattle.partial_epochs.proofs.{Common.{ℕ, zero, suc, ◌≡◌, ◌≢◌, ◌+◌, ◌-◌, ◌<◌, ◌≤◌, ◌==◌, ◌⊎◌, Bool, true, false, if◌then◌else◌, Option, Some, None, IfSome, List, [], ◌∷◌, length, slice_index, slice_set, refl, sym, ap, subst, ◌∙◌, inl, inr, arith, option_map, cases_lt, lt-ltb, eqb_tells, get_or-set_same, get_or-set_other, length-set, set-get_or, Applied, Opening, some_same, Layout, total, first_free, pool_counter, slot_counter, slot_word, set_offset, HasClearRecords, HasClearSlots, Part, fresh_part, fresh_parts, list_of, put, IsToBeSet, Plan, Site, IsSealed, at_word, arena_words, base, carried_word, carried_words, component_words, control_size, control_words, current_word, packed, plain, seal, stamp_after, opened_after, Control, OwnedArena, Port, Epoch, IsSiteWord, IsOut, IsOwner, LawfulControl, MayPut, Beside, IsArena, IsFinished, IsNewPart, IsSetting, IsStanding, LawfulEpochs, controls, numbers, site_now, IsPresent, IsWholeArena, PublishesStayLawful, having_published, next_beside, next_site, next_epoch, resting_arena, OpensOver, Stands, not_below, opening_word, opening_component, pool_opens, slot_opens}, Continue.many, ClearRecords.{opens_by_set, records_before}, Entering.{control_lifted, current_is, cw_long, high_arenaed, high_clear, high_records}, Lists.{at_of, length_of, put_all, put_other, put_same, set_of}, Opens.opens_over, Owning.{knows_more, out_then}, Offsets.{offset_back, offset_low, offset_to_be_set, packed_arena, set_high, set_low}, Present.{present, same_site}, Publishing.published, Worded.{component_at, plain_at, plain_component, plain_other}}
+use Rattle.partial_epochs.proofs.{Common.{ℕ, zero, suc, ◌≡◌, ◌≢◌, ◌+◌, ◌-◌, ◌<◌, ◌≤◌, ◌==◌, ◌⊎◌, Bool, true, false, if◌then◌else◌, Option, Some, None, IfSome, List, [], ◌∷◌, length, slice_index, slice_set, refl, sym, ap, subst, ◌∙◌, inl, inr, arith, option_map, cases_lt, lt-ltb, eqb_tells, get_or-set_same, get_or-set_other, length-set, set-get_or, Applied, Opening, some_same, Layout, total, first_free, pool_counter, slot_counter, slot_word, set_offset, HasClearRecords, HasClearSlots, Part, fresh_part, fresh_parts, list_of, put, IsToBeSet, Plan, Site, IsSealed, at_word, arena_words, base, carried_word, carried_words, component_words, control_size, control_words, current_word, packed, plain, seal, stamp_after, opened_after, Control, OwnedArena, Port, Epoch, IsSiteWord, IsOut, IsOwner, LawfulControl, MayPut, Beside, IsArena, IsFinished, IsNewPart, IsSetting, IsStanding, LawfulEpochs, controls, numbers, site_now, IsPresent, IsWholeArena, PublishesStayLawful, having_published, next_beside, next_site, next_epoch, resting_arena, OpensOver, Stands, not_below, opening_word, opening_component, pool_opens}, Continue.many, ClearRecords.{opens_by_set, records_before}, Entering.{control_lifted, current_is, cw_long, high_arenaed, high_clear, high_records}, Lists.{at_of, length_of, put_all, put_other, put_same, set_of}, Opens.{no_slot_claimed, opens_over}, Owning.{knows_more, out_then}, Offsets.{offset_back, offset_low, offset_to_be_set, packed_arena, set_high, set_low}, Present.{present, same_site}, Publishing.published, Worded.{component_at, plain_at, plain_component, plain_other}}
 use Rattle.partial_core.specs.Lawful as one
 
 -- what an epoch opens with has the same first stamp
@@ -216,6 +216,9 @@ module _ (e : Plan) (words : List ℕ) (ports : ℕ → Port) (b : Beside) (k : 
         as_is i low (inl inside) = let small = component_small i inside in plain_component e words o.arena i (slice_index words (base e o.arena + i)) inside ∙ omega (arith, small)
         as_is i low (inr from) = plain_other e words o.arena i (slice_index words (base e o.arena + i)) from
 
+    no_slot : slice_index (arena_words e words o.arena) (slot_counter e.sizes) ≡ 0
+    no_slot = no_slot_claimed e.sizes (opened_after e.opening (b.log ∷ b.before)) (arena_words e words o.arena) opens
+
     arena_new : IsArena e (arena_words e words o.arena) (component_words e words o.arena) (carried_words e words o.arena) (next_epoch e b) (o.arena ≢ o.arena)
     arena_new = record {
       lawful = subst (λ (l : List Part). one.Lawful e.sizes (opened_after e.opening (b.log ∷ b.before)) (arena_words e words o.arena) l []) (sym (fresh_list e.sizes 0 e.ports))
@@ -234,14 +237,8 @@ module _ (e : Plan) (words : List ℕ) (ports : ℕ → Port) (b : Beside) (k : 
           opens.each (pool_counter e.sizes) (omega (arith, some_slots, some_components)) (inl (omega (arith, some_slots)))
           ∙ pool_opens e.sizes (opened_after e.opening (b.log ∷ b.before)).values in
           omega (arith, is, room);
-      slots =
-          let pool = w.plan.sizes.pool.0 in
-          let some_slots = w.plan.sizes.slots.0 in
-          let some_components = w.plan.sizes.components.0 in
-          let claimed : slice_index (arena_words e words o.arena) (slot_counter e.sizes) ≡ 0 =
-          opens.each (slot_counter e.sizes) (omega (arith, some_slots, some_components)) (inl (omega (arith, some_slots)))
-          ∙ slot_opens e.sizes (opened_after e.opening (b.log ∷ b.before)).values some_slots in
-          omega (arith, claimed);
+      slots = omega (arith, no_slot);
+      silent = λ off. record { unclaimed = no_slot; finds = λ q low. tt };
     }
 
     held : (P : Epoch → Type 0) (y : ℕ) (r : Epoch) → b'.holds y ≡ Some r → (y ≡ o.arena → P (next_epoch e b)) → (y ≢ o.arena → b.holds y ≡ Some r → P r) → P r
@@ -274,6 +271,7 @@ module _ (e : Plan) (words : List ℕ) (ports : ℕ → Port) (b : Beside) (k : 
           sealed = λ _ j low. all y r was t (eqb_tells y b.arena) j low;
           reserve = t.reserve;
           slots = t.slots;
+          silent = t.silent;
         }))
       where
         all : (y : ℕ) (r : Epoch) → b.holds y ≡ Some r → IsArena e (arena_words e words y) (component_words e words y) (carried_words e words y) r (y ≢ b.arena) →

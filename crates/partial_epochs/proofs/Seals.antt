@@ -73,6 +73,7 @@ module _ (e : Plan) (words : List ℕ) (ports : ℕ → Port) (b : Beside) (k : 
       ];
       reserve = arena.reserve;
       slots = arena.slots;
+      silent = arena.silent;
     })
       where
         few : (i : ℕ) → i < e.sizes.m → seals (slice_index (component_words e words' x) i) ≤ count (λ q. nat_lt i (passed' q)) 0 e.ports

@@ -1,5 +1,5 @@
 -- The steps that aren't a machine's keep the notes lawful, and a port notes what it has seen by a look.
-use Rattle.partial_epochs.proofs.{Common.{ℕ, ◌≡◌, ◌≢◌, ◌+◌, ◌<◌, ◌≤◌, ◌==◌, ◌⊎◌, ◌++◌, true, false, Option, IfSome, List, [], ◌∷◌, length, refl, sym, ap, subst, ◌∙◌, inl, inr, arith, length-append, AllByRecursion, eqb_tells, append-nil, length-map, Applied, Note, IsLegal, IsTrueOf, LegalNotes, Noted, place_of, seen_after, seen_by, EachOnce, places_by, places_written, wrote, some_same, words_after, Exchange, Part, PartAmong, port_of, with_seen, looks_stay_lawful, count, list_of, put, Site, Plan, arena_words, at_word, carried_words, component_words, entering_from, packed, history_of, opened_after, public_entry, public_log, Epoch, Port, Stands, Beside, IsArena, IsStanding, LawfulEpochs, awaits_slot, claims_no_more, arrived_port, having_published, next_beside, ArrivalsKeepNotes, AsidesStayLawful, GlanceLeads, GlancesStayLawful, IsEpochHistory, IsSight, LawfulMemory, LawfulNotes, PublishesKeepNotes, EpochReached, SightLeads, SightsStayLawful, having_seen, noting, one_history, seen_of, IsTrueOf-grows, LegalNotes-push, places_written-append, seen_by-push}, Change.{Changes, beside_then, change_kept}, Lists.{Around, around_of, count_same, put_all, put_other, put_same}, OneHistory.{history_grows, present_history}, Present.standing, Seats.{among, reached, reached_grows, seen_few}, Slots.done}
+use Rattle.partial_epochs.proofs.{Common.{ℕ, ◌≡◌, ◌≢◌, ◌+◌, ◌<◌, ◌≤◌, ◌==◌, ◌⊎◌, ◌++◌, true, false, Option, IfSome, List, [], ◌∷◌, length, refl, sym, ap, subst, ◌∙◌, inl, inr, arith, length-append, AllByRecursion, eqb_tells, append-nil, length-map, Applied, Note, IsLegal, IsTrueOf, LegalNotes, Noted, place_of, seen_after, seen_by, EachOnce, places_by, places_written, wrote, some_same, words_after, Exchange, Part, PartAmong, core_of, port_of, with_seen, looks_stay_lawful, count, list_of, put, Site, Plan, arena_words, at_word, carried_words, component_words, entering_from, packed, history_of, opened_after, public_entry, public_log, Epoch, Port, Stands, Beside, FindsNone, IsArena, IsStanding, LawfulEpochs, awaits_slot, claims_no_more, arrived_port, having_published, next_beside, ArrivalsKeepNotes, AsidesStayLawful, GlanceLeads, GlancesStayLawful, IsEpochHistory, IsSight, LawfulMemory, LawfulNotes, PublishesKeepNotes, EpochReached, SightLeads, SightsStayLawful, having_seen, noting, one_history, seen_of, IsTrueOf-grows, LegalNotes-push, places_written-append, seen_by-push}, Change.{Changes, beside_then, change_kept}, Lists.{Around, around_of, count_same, put_all, put_other, put_same}, OneHistory.{history_grows, present_history}, Present.standing, Seats.{among, reached, reached_grows, seen_few}, Slots.done}
 use Rattle.partial_core.specs.Lawful as one
 use Rattle.partial_core.specs.Ports.{Looks}
 
@@ -144,6 +144,10 @@ module _ (e : Plan) (words : List ℕ) (ports : ℕ → Port) (b : Beside) (k : 
             (put_all (λ i (z : Part). awaits_slot z ≡ awaits_slot (r.part i)) k y r.part q (λ _. refl) (λ _. refl))) in
             let slots = arena.slots in
             omega (arith, same, slots);
+        silent = λ off. record {
+          unclaimed = (arena.silent off).unclaimed;
+          finds = λ q inside. put_all (λ i (z : Part). FindsNone (core_of z)) k y r.part q (λ _. (arena.silent off).finds k below) (λ _. (arena.silent off).finds q inside);
+        };
       }
 
   changes : Changes e words b k x (ports k) r words (having_seen (ports k) r.log) r' []

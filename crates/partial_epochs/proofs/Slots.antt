@@ -1,5 +1,5 @@
 -- Slots past the slot limit are claimed by ports that claim no more.
-use Rattle.partial_epochs.proofs.{Common.{ℕ, ◌≡◌, ◌+◌, ◌*◌, ◌%◌, ◌^◌, ◌<◌, ◌≤◌, ◌==◌, ◌⊎◌, Bool, true, false, if◌then◌else◌, Option, Some, None, List, length, slice_index, refl, sym, ap, subst, ◌∙◌, inl, inr, arith, ⊤, nat_lt, is_some, option_map_or, cases_lt, lt-ltb, get_or-set_same, get_or-set_other, mul-le-mul_left, some_same, Step, Load, Store, Exchange, Add, Layout, list_counter, pool_counter, pool_end, slot_counter, slot_word, greatest_claim, words_after, CoreState, advance, advance_at, after_joining, at_stage, begin_getting, expects, claim_size, getting, record_size, scanning, step_at, step_of, with_getting, with_scanning, is_at_rest, is_begun, IsSound, is_sound_at, IsMachineOf, Part, core_of, Plan, count, Epoch, IsArena, IsEpochPlan, awaits_at, awaits_slot, is_claiming, announcement_size, join_after, join_step, JoinStage, Claiming, Storing, Joined, Spent, Stage, Idle, ReadBegun, LoadingValue, UpdateBegun, GettingSet, Viewing, ClaimingRecord, StoringRecord, Exchanging, ScanBegun, StoringAnnouncement, Joining, Scanning, Leaving, Finished, record_cases, record_step_cases, view_loads, Reply}, Apart.IsApart, Lists.count_few}
+use Rattle.partial_epochs.proofs.{Common.{ℕ, ◌≡◌, ◌+◌, ◌*◌, ◌%◌, ◌^◌, ◌<◌, ◌≤◌, ◌==◌, ◌⊎◌, Bool, true, false, if◌then◌else◌, Option, Some, None, List, length, slice_index, refl, sym, ap, subst, ◌∙◌, inl, inr, arith, ⊤, nat_lt, is_some, option_map_or, cases_lt, lt-ltb, get_or-set_same, get_or-set_other, mul-le-mul_left, some_same, Step, Load, Store, Exchange, Add, Layout, list_counter, pool_counter, pool_end, slot_counter, slot_word, words_after, CoreState, advance, advance_at, after_joining, at_stage, begin_getting, expects, claim_size, getting, record_size, scanning, step_at, step_of, with_getting, with_scanning, is_at_rest, is_begun, IsSound, is_sound_at, IsMachineOf, Part, core_of, Plan, count, greatest_claim_of, Epoch, IsArena, IsEpochPlan, awaits_at, awaits_slot, is_claiming, announcement_size, join_after, join_step, JoinStage, Claiming, Storing, Joined, Spent, Stage, Idle, ReadBegun, LoadingValue, UpdateBegun, GettingSet, Viewing, ClaimingRecord, StoringRecord, Exchanging, ScanBegun, StoringAnnouncement, Joining, Scanning, Leaving, Finished, record_cases, record_step_cases, view_loads, Reply}, Apart.IsApart, Lists.count_few}
 use Rattle.partial_active.specs.declared.get_set.Stage.{Stage as SetStage}
 use Rattle.partial_active.specs.declared.get_set.Stage.TheVariants as set_stage
 use Rattle.partial_active.specs.GetSet as finding
@@ -14,11 +14,11 @@ abbrev pub one : Bool → ℕ
 one b = if b then 1 else 0
 
 -- a step that claims neither a slot nor words of the pool
-abbrev IsQuiet : Layout → Step → Type 0
+abbrev pub IsQuiet : Layout → Step → Type 0
 IsQuiet z (Add w n) = w ≡ list_counter z
 IsQuiet z _ = ⊤
 
-getting_quiet : (y : Layout) (head : ℕ) (t : SetStage) (step : Step) → finding.set_step_at y head t ≡ Some step → IsQuiet y step
+pub getting_quiet : (y : Layout) (head : ℕ) (t : SetStage) (step : Step) → finding.set_step_at y head t ≡ Some step → IsQuiet y step
 getting_quiet y head set_stage.Head step e = subst (IsQuiet y) (some_same e) tt
 getting_quiet y head (set_stage.ListLen at) step e = subst (IsQuiet y) (some_same e) tt
 getting_quiet y head (set_stage.ListLow at left) step e = subst (IsQuiet y) (some_same e) tt
@@ -213,5 +213,5 @@ pub pool_within : (e : Plan) (words components carried : List ℕ) (r : Epoch) (
 pool_within e words components carried r f plan arena =
     let reserve = arena.reserve in
     let limit = plan.limit in
-    let times : greatest_claim e.sizes * count r.over 0 e.ports ≤ greatest_claim e.sizes * e.ports = mul-le-mul_left (greatest_claim e.sizes) (count_few r.over 0 e.ports) in
+    let times : greatest_claim_of e * count r.over 0 e.ports ≤ greatest_claim_of e * e.ports = mul-le-mul_left (greatest_claim_of e) (count_few r.over 0 e.ports) in
     omega (arith, reserve, limit, times)

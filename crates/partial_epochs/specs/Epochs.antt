@@ -1,20 +1,22 @@
 -- The lawful state of a memory over all epochs.
-use Rattle.std.specs.Prelude.{ℕ, ◌+◌, ◌*◌, ◌<◌, ◌≤◌, nat_lt, Bool, true, List, ◌∷◌, slice_index, if◌then◌else◌, ◌++◌, length, Option, ◌≡◌, ◌≢◌, None, Some, IfSome, ◌-◌, false}
-use Rattle.partial_words.specs.Layout.{IsLayout, pool_base, pool_counter, pool_end, first_free, greatest_claim, initial_record, most_ports, slot_counter, slot_word}
+use Rattle.std.specs.Prelude.{ℕ, ◌+◌, ◌*◌, ◌<◌, ◌≤◌, nat_lt, Bool, true, ⊤, List, [], ◌∷◌, slice_index, if◌then◌else◌, ◌++◌, length, Option, ◌≡◌, ◌≢◌, None, Some, IfSome, ◌-◌, false}
+use Rattle.partial_words.specs.Layout.{IsLayout, pool_base, pool_counter, pool_end, first_free, initial_record, most_ports, slot_counter, slot_word}
 use Rattle.partial_words.specs.Record.{prev_word, view_word}
 use Rattle.std.specs.Option.{option_map}
 use Rattle.partial_model.specs.declared.history.Applied.{Applied}
+use Rattle.partial_active.specs.declared.get_set.Stage.{Stage as SetStage}
+use Rattle.partial_active.specs.declared.get_set.Stage.TheVariants.{Head, Slot, Len, Index}
 use Rattle.partial_active.specs.declared.join.JoinStage.{JoinStage}
 use Rattle.partial_active.specs.declared.join.JoinStage.TheVariants.{Claiming}
 use Rattle.partial_machine.specs.declared.stage.Stage.{Stage}
-use Rattle.partial_machine.specs.declared.stage.Stage.TheVariants.{StoringAnnouncement, Joining}
+use Rattle.partial_machine.specs.declared.stage.Stage.TheVariants.{GettingSet, Viewing, ClaimingRecord, StoringRecord, Exchanging, ScanBegun, StoringAnnouncement, Joining, Scanning, Leaving}
 use Rattle.partial_machine.specs.Machine.{CoreState}
 use Rattle.partial_core.specs.Part.{Part, core_of, port_of, fresh_part}
 use Rattle.partial_words.specs.Chain.{opening_word}
 use Rattle.partial_core.specs.Lawful.{Lawful}
 use Rattle.partial_core.specs.Lawful as one
 use Rattle.partial_epochs.specs.Lists.{list_of, count}
-use Rattle.partial_epochs.specs.Layout.{arena_limit, Plan, Site, packed, current_word, control_words, component_words, carried_words, whole, slot_limit, seals, IsSealed, IsToBeSet, arena_words, base, set_offset, set_word}
+use Rattle.partial_epochs.specs.Layout.{arena_limit, greatest_claim_of, Plan, Site, packed, current_word, control_words, component_words, carried_words, whole, slot_limit, seals, IsSealed, IsToBeSet, arena_words, base, set_offset, set_word}
 use Rattle.partial_epochs.specs.History.{opened_after, stamp_after}
 use Rattle.partial_epochs.specs.Ports.{OwnedArena, Control, Port, Epoch}
 use Rattle.partial_epochs.specs.Control.{LawfulControl}
@@ -35,7 +37,7 @@ pub record IsEpochPlan (e : Plan) : Type 0 where
   -- the limit lies after the initial records
   pub opens : first_free e.sizes ≤ e.limit
   -- after the limit there is room for the greatest claim of each port
-  pub limit : e.limit + greatest_claim e.sizes * e.ports ≤ pool_end e.sizes
+  pub limit : e.limit + greatest_claim_of e * e.ports ≤ pool_end e.sizes
 
 -- What stands beside words and ports (ghost state).
 pub record Beside : Type 0 where
@@ -83,6 +85,39 @@ awaits_slot x = awaits_at (core_of x) (core_of x).stage
 abbrev pub claims_no_more : Bool → Part → Bool
 claims_no_more over x = if awaits_slot x then false else over
 
+-- where no scan announces itself: a getSet at this stage has found no index since it loaded the list head, and comes to no slot
+abbrev pub FindsNoIndex : List ℕ → SetStage → Type 0
+FindsNoIndex indices Head = ⊤
+FindsNoIndex indices (Slot slot) = ⊥
+FindsNoIndex indices (Len slot at) = ⊥
+FindsNoIndex indices (Index slot at left) = ⊥
+FindsNoIndex indices _ = indices ≡ []
+
+-- there a machine at this stage is in no scan, and an update that has made its getSet has found no index, so that it takes no view
+abbrev pub finds_none_at : CoreState → Stage → Type 0
+finds_none_at s (GettingSet c old) = FindsNoIndex s.found.indices s.get_set.stage
+finds_none_at s (Viewing c old) = ⊥
+finds_none_at s (ClaimingRecord c old) = s.found.indices ≡ []
+finds_none_at s (StoringRecord c old at k) = s.found.indices ≡ []
+finds_none_at s (Exchanging c old at) = s.found.indices ≡ []
+finds_none_at s ScanBegun = ⊥
+finds_none_at s (StoringAnnouncement at k) = ⊥
+finds_none_at s Joining = ⊥
+finds_none_at s Scanning = ⊥
+finds_none_at s Leaving = ⊥
+finds_none_at s _ = ⊤
+
+-- the machine finds no scan, and makes none
+abbrev pub FindsNone : CoreState → Type 0
+FindsNone s = finds_none_at s s.stage
+
+-- what is so of the words and the parts of an arena where no scan announces itself
+pub record IsSilent (e : Plan) (words : List ℕ) (part : ℕ → Part) : Type 0 where
+  -- no slot is claimed
+  pub unclaimed : slice_index words (slot_counter e.sizes) ≡ 0
+  -- the machine of each port finds no scan, and makes none
+  pub finds : (k : ℕ) → k < e.ports → FindsNone (core_of (part k))
+
 -- What is so of an arena that holds the epoch r: of its words without the seals, its component words with them, and its
 -- carried stamps.
 pub record IsArena (e : Plan) (words components carried : List ℕ) (r : Epoch) (finished : Type 0) : Type 0 where
@@ -99,9 +134,11 @@ pub record IsArena (e : Plan) (words components carried : List ℕ) (r : Epoch) 
   -- each component of a finished epoch is sealed
   pub sealed : finished → (j : ℕ) → j < e.sizes.m → IsSealed (slice_index components j)
   -- claims that end past the limit are those of ports that make no more
-  pub reserve : slice_index words (pool_counter e.sizes) ≤ e.limit + greatest_claim e.sizes * count r.over 0 e.ports
+  pub reserve : slice_index words (pool_counter e.sizes) ≤ e.limit + greatest_claim_of e * count r.over 0 e.ports
   -- slots past the slot limit are those of ports that claim no more
   pub slots : slice_index words (slot_counter e.sizes) ≤ slot_limit e + count (λ k. claims_no_more (r.over k) (r.part k)) 0 e.ports
+  -- where scans don't announce themselves, nobody scans there, and no update finds a scan
+  pub silent : e.announces ≡ false → IsSilent e words r.part
 
 -- a port that stands in an epoch has its own part there
 pub record IsStanding (b : Beside) (k : ℕ) (p : Port) : Type 0 where

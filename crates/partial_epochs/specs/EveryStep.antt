@@ -18,7 +18,7 @@ use Rattle.partial_epochs.specs.Entering.{Arrives, arrived_port, having_passed}
 use Rattle.partial_epochs.specs.Owning.{having_given, having_loaded, having_looked, having_put, just_taken, owning_port}
 use Rattle.partial_epochs.specs.Sealing.{IsBesideAs, passing_port}
 use Rattle.partial_epochs.specs.Epochs.{Beside, HasClearRecords, IsStanding, next_epoch_word, site_now}
-use Rattle.partial_epochs.specs.MachineSteps.{MachineLeads, MayClaim, MeetsSeal}
+use Rattle.partial_epochs.specs.MachineSteps.{MachineLeads, MayClaim, MayScan, MeetsSeal}
 use Rattle.partial_epochs.specs.Publishing.{ClearsSlots, IsWholeArena, having_published, having_set, next_beside, next_site}
 use Rattle.partial_epochs.specs.Opening.{OpensAll, first_beside, first_ports}
 use Rattle.partial_epochs.specs.Notes.{IsAside, IsSight, LawfulMemory, MayNote, having_seen, noting, one_history, public_noted}
@@ -100,7 +100,7 @@ abbrev pub MayMove : Plan → List ℕ → (ℕ → Port) → Beside → (ℕ �
 MayMove e words ports b notes k Rests = ⊤
 MayMove e words ports b notes k (Makes c step noted) =
     ((ports k).control.entering ≡ Stands) × IsMachineOf c (ports k).part × (step_of c ≡ Some step) × MayClaim e (ports k).over step
-    × ((lead : MachineLeads e words ports b k c step) →
+    × MayScan e c × ((lead : MachineLeads e words ports b k c step) →
     MayNote e (ports k) (notes k) (since_with c (ports k).part) lead.port.part.seen lead.tells.new
     (noted_after e (ports k) noted lead.tells.new))
 MayMove e words ports b notes k Seals = ((ports k).control.entering ≡ Stands) × ((ports k).passed < e.sizes.m)

@@ -1,8 +1,8 @@
 -- The words of a memory whose arenas are used again and again, one definition for each offset: control words, and arenas.
-use Rattle.std.specs.Prelude.{ℕ, ◌≡◌, ◌+◌, ◌*◌, ◌/◌, ◌%◌, ◌<◌, ◌≤◌, ◌⊎◌, nat_lt, List, slice_index, if◌then◌else◌, ◌-◌}
+use Rattle.std.specs.Prelude.{ℕ, ◌≡◌, ◌+◌, ◌*◌, ◌/◌, ◌%◌, ◌<◌, ◌≤◌, ◌⊎◌, nat_lt, Bool, List, slice_index, if◌then◌else◌, ◌-◌}
 use Rattle.partial_model.specs.declared.history.Opening.{Opening}
-use Rattle.partial_words.specs.Layout.{Layout, total, first_free, initial_record, list_base, pool_base}
-use Rattle.partial_words.specs.Record.{value_word}
+use Rattle.partial_words.specs.Layout.{Layout, total, first_free, greatest_claim, initial_record, list_base, most_ahead, pool_base}
+use Rattle.partial_words.specs.Record.{plain_record_size, value_word}
 use Rattle.partial_words.specs.declared.step.Step.{Step}
 use Rattle.partial_words.specs.declared.step.Step.TheVariants.{Load, Store, Exchange, Add}
 use Rattle.partial_epochs.specs.Lists.{list_of}
@@ -19,6 +19,8 @@ pub record Plan : Type 0 where
   pub opening : Opening
   -- the pool limit of an arena: a claim of pool words that ends past this word is its port's last one in the epoch
   pub limit : ℕ
+  -- whether scans announce themselves, so that updates help them
+  pub announces : Bool
 
 -- A site: an epoch, and the arena that holds it. (Elsewhere a place is a position in the one history.)
 pub record Site : Type 0 where
@@ -28,6 +30,10 @@ pub record Site : Type 0 where
 -- so many slots of an arena are claimed before a port's claim of one is its last in the epoch: one for each port is left
 abbrev pub slot_limit : Plan → ℕ
 slot_limit e = e.sizes.slots - e.ports
+
+-- the greatest claim of pool words: where no scan announces itself no record has a view
+abbrev pub greatest_claim_of : Plan → ℕ
+greatest_claim_of e = if e.announces then greatest_claim e.sizes else plain_record_size + most_ahead
 
 -- there are at most so many arenas, so that a site is the number of its epoch and of its arena in one word
 abbrev pub arena_limit : ℕ

@@ -1,6 +1,6 @@
 -- The steps of a port's machine, made in the arena where the port stands.
 use Rattle.std.specs.Prelude.{ℕ, ◌+◌, ◌<◌, ◌≤◌, ◌==◌, nat_lt, Bool, List, [], slice_index, ◌++◌, length, ◌≡◌, ◌≢◌, ◌⊎◌, ⊤, Some, false, ◌&&◌, ◌||◌}
-use Rattle.partial_words.specs.Layout.{pool_counter, pool_end, greatest_claim, slot_counter}
+use Rattle.partial_words.specs.Layout.{pool_counter, pool_end, slot_counter}
 use Rattle.partial_words.specs.declared.step.Step.{Step}
 use Rattle.partial_words.specs.declared.step.Step.TheVariants.{Exchange, Add}
 use Rattle.std.specs.List.{AllByRecursion}
@@ -9,10 +9,11 @@ use Rattle.partial_core.specs.Part.{IsMachineOf}
 use Rattle.partial_words.specs.Step.{answer_of, word_of, words_after}
 use Rattle.partial_model.specs.declared.call.Refused.{Refused}
 use Rattle.partial_machine.specs.declared.stage.Reply.{Reply}
+use Rattle.partial_machine.specs.declared.stage.Stage.TheVariants.{ScanBegun}
 use Rattle.partial_machine.specs.Machine.{CoreState, advance, reply_of, step_of}
 use Rattle.partial_core.specs.Steps.{StepShows}
 use Rattle.partial_epochs.specs.Lists.{put}
-use Rattle.partial_epochs.specs.Layout.{Plan, component_words, unsealed, IsSealed, plain, arena_words, based_step, slot_limit}
+use Rattle.partial_epochs.specs.Layout.{Plan, component_words, unsealed, IsSealed, plain, arena_words, based_step, greatest_claim_of, slot_limit}
 use Rattle.partial_epochs.specs.History.{opened_after}
 use Rattle.partial_epochs.specs.Ports.{Port}
 use Rattle.partial_epochs.specs.Epochs.{Beside, IsStanding, LawfulEpochs, IsPresent}
@@ -40,6 +41,10 @@ ends_over e words _ = false
 abbrev pub MayClaim : Plan → Bool → Step → Type 0
 MayClaim e over (Add w n) = w ≡ pool_counter e.sizes → over ≡ false
 MayClaim e over _ = ⊤
+
+-- a machine begins a scan only where scans announce themselves
+abbrev pub MayScan : Plan → CoreState → Type 0
+MayScan e c = e.announces ≡ false → c.stage ≢ ScanBegun
 
 -- What the due step of a port's machine leads to, made in the arena where the port stands: the machine's answer is the one that the words
 -- give without their seals, and the one law of steps shows the port what it shows.
@@ -73,7 +78,7 @@ pub record MachineLeads (e : Plan) (words : List ℕ) (ports : ℕ → Port) (b 
 abbrev pub MachineStepsStayLawful : Type 0
 MachineStepsStayLawful = (e : Plan) (words : List ℕ) (ports : ℕ → Port) (b : Beside) (k : ℕ) (c : CoreState) (step : Step) →
     LawfulEpochs e words ports b → k < e.ports → (ports k).control.entering ≡ Stands → IsMachineOf c (ports k).part →
-    step_of c ≡ Some step → MayClaim e (ports k).over step →
+    step_of c ≡ Some step → MayClaim e (ports k).over step → MayScan e c →
     (MeetsSeal e (component_words e words (ports k).control.here.arena) step
     × (words_after words (based_step e (ports k).control.here.arena step) ≡ words))
     ⊎ MachineLeads e words ports b k c step
@@ -82,7 +87,7 @@ MachineStepsStayLawful = (e : Plan) (words : List ℕ) (ports : ℕ → Port) (b
 abbrev pub ClaimsHaveRoom : Type 0
 ClaimsHaveRoom = (e : Plan) (words : List ℕ) (ports : ℕ → Port) (b : Beside) (k : ℕ) → LawfulEpochs e words ports b → k < e.ports →
     (ports k).control.entering ≡ Stands → (ports k).over ≡ false →
-    slice_index (arena_words e words (ports k).control.here.arena) (pool_counter e.sizes) + greatest_claim e.sizes ≤ pool_end e.sizes
+    slice_index (arena_words e words (ports k).control.here.arena) (pool_counter e.sizes) + greatest_claim_of e ≤ pool_end e.sizes
 
 -- there is a slot for each port, so that one is left for each after the slot limit
 abbrev pub HaveSlots : Plan → Type 0
