@@ -5,14 +5,13 @@ A figure is between <!--=NAME--> and <!--=-->. NAME is `tests`, the functions of
 the edits that the prover has to refuse, and `edits.CRATE`, those of a crate; `wrong`, the wrong bodies and definitions
 in them, one for each function or law that has to refuse it; `plans`, the files plans/*.plan; `believed`, what
 tests/believed.py finds of the calls of a single opening, or `believed.long_lived` of those of the long-lived memory;
-`components.N`, the most components of a long-lived memory with N ports, `full` the most ports with which that is the
-greatest number, `pool.N` the pool words of its arenas, `megabytes.N` or `megabytes.N.M` what it takes with 8 or M
-components, and `claims.N` of how many updates one claims, all at the usual sizes; `limit.NAME` the limit of that name
-in `specs/`; `steps.SIZE.CALL` a number of the law `most_steps_in_numbers`; or `version`, that of the crate for Rust. The
-rows of README.md's table of speed are those of docs/benches.md, which begins with benches/head.md, and the number of
-measurements is that of the benches. README.md has at most 150 lines, and CONTRIBUTING.md and the page on architecture
-name each crate. With --write the figures are written anew. The last line is 'N passed, M failed', one for each figure,
-row and name.
+`helped.N`, the most components of a long-lived memory with N ports in which scans announce themselves, `pool.N` or
+`pool.N.M` the pool words of its arenas with 8 or M components, `megabytes.N` or `megabytes.N.M` what it takes, and
+`claims.N` of how many updates one claims, all at the usual sizes; `limit.NAME` the limit of that name in `specs/`;
+`steps.SIZE.CALL` a number of the law `most_steps_in_numbers`; or `version`, that of the crate for Rust. The rows of
+README.md's table of speed are those of docs/benches.md, which begins with benches/head.md, and the number of measurements
+is that of the benches. README.md has at most 150 lines, and CONTRIBUTING.md and the page on architecture name each crate.
+With --write the figures are written anew. The last line is 'N passed, M failed', one for each figure, row and name.
 """
 import re
 import sys
@@ -50,25 +49,21 @@ def option(name):
     return found and int(found[1])
 
 
+def helped(ports):
+    """The most components with which scans announce themselves (`announces_for`)."""
+    return min(option('most_helped') // ports, MOST_COMPONENTS)
+
+
 def room(ports, m):
     """The pool words of an arena for the greatest claim of each port (`claim_room`): a record, and the words ahead."""
-    return (4 + 2 * m + option('most_ahead')) * ports
-
-
-def components(ports):
-    """The most components with so many ports: an arena has room for initial records and claims beside the pool."""
-    return min((option('most_pool') - option('fewest_pool') - room(ports, 0)) // (3 + 2 * ports), MOST_COMPONENTS)
+    return ((4 + 2 * m if m <= helped(ports) else 3) + option('most_ahead')) * ports
 
 
 def pool(ports, m=8):
     """The usual pool of an arena (`usual_pool`)."""
-    most = max(min(option('pool_of_port') * ports, option('pool_of_all') // ports), option('pool_of_component') * m)
+    most = max(min(option('pool_of_port') * ports, option('pool_of_all') // ports),
+               min(option('pool_of_component') * m, option('pool_of_components') // ports))
     return max(min(most, option('most_pool') - 3 * m - room(ports, m)), option('fewest_pool'))
-
-
-def full():
-    """The most ports with which there is room for as many components as a memory may have."""
-    return max(ports for ports in range(1, option('most_ports') + 1) if components(ports) == MOST_COMPONENTS)
 
 
 def claims(ports):
@@ -76,13 +71,19 @@ def claims(ports):
     return 1 + min(pool(ports) // 8 // ports, option('most_ahead')) // 3
 
 
+def slots(ports, m):
+    """The slots of an arena (`least_slots`, `spare_slots`)."""
+    rest = 5 * m + 3 + LIST_WORDS + pool(ports, m) + room(ports, m)
+    least = (pool(ports, m) // 8 if m <= helped(ports) else 0) + ports
+    return min(least + 15 - (rest + least) % 16, option('most_slots'))
+
+
 def megabytes(ports, m=8):
     """What a memory of the usual sizes takes, in MB: the words of its epochs, ports and arenas."""
-    rest, slots = 5 * m + 4 + LIST_WORDS + pool(ports, m) + room(ports, m), pool(ports, m) // 8 + ports
-    slots = min(slots + 15 - (rest + slots - 1) % 16, option('most_slots'))
+    arena = 5 * m + 4 + LIST_WORDS + pool(ports, m) + room(ports, m) + slots(ports, m)
     control = 1 + 3 * ports
-    taken = 8 * (control + 15 - (control + 3 + m) % 16 + 2 * ports * (rest + slots)) / 10 ** 6
-    return f'{taken:.1f}' if taken < 10 else f'{taken:.0f}'
+    taken = 8 * (control + 15 - (control + 3 + m) % 16 + 2 * ports * arena) / 10 ** 6
+    return f'{taken:.1f}' if taken < 10 else f'{taken:,.0f}'
 
 
 def steps(size, call):
@@ -96,9 +97,9 @@ def figure(name):
     """The figure of this name, or None where there is none of it."""
     kind, _, part = name.partition('.')
     plain = {'tests': tests, 'edits': edits, 'wrong': lambda: edits(word='refused'), 'believed': believed.most,
-             'full': full, 'version': lambda: version.version(*version.CRATE),
+             'version': lambda: version.version(*version.CRATE),
              'plans': lambda: len(list((TOP / 'plans').glob('*.plan')))}
-    sized = {'components': lambda ports: f'{components(ports):,}', 'pool': lambda ports: f'{pool(ports):,}',
+    sized = {'helped': lambda ports: f'{helped(ports):,}', 'pool': lambda *of: f'{pool(*of):,}',
              'megabytes': megabytes, 'claims': lambda ports: str(claims(ports))}
     if name == 'believed.long_lived':
         return str(believed.most_long_lived())

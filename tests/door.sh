@@ -53,9 +53,10 @@ same_code() {
     cargo test --offline --quiet --release --lib --manifest-path bindings/rust/Cargo.toml \
         --config "target.'cfg(unix)'.runner = ['$PWD/tests/same_code.py']"
 }
-# Whether 64 threads soak a memory for a second without a fault, and their first calls are linearizable.
+# Whether so many threads soak a memory for a second without a fault, and their first calls are linearizable. With 64 of
+# them scans announce themselves, with 200 none does.
 soak() {
-    example soak 64 1 512 "$made/history" && python3 tests/judge_times.py <"$made/history"
+    example soak "$1" 1 512 "$made/history" && python3 tests/judge_times.py <"$made/history"
 }
 # Whether the program of these tests has a function of the library for scans, and none for reads.
 calls_no_read() {
@@ -162,7 +163,8 @@ if command -v cargo >/dev/null 2>&1; then
     item "the example flags.rs" example flags 400000
     item "the example monitor.rs" example monitor 400000
     item "the example scheduler.rs" example scheduler 100000
-    item "the soak" soak
+    item "the soak" soak 64
+    item "the soak without announcements" soak 200
     item "the programs of docs/start.md" tests/start.py
     item "the tests of the Rust binding over plain Rust" over_plain_rust
     item "the Rust binding without the library" without_library

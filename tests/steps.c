@@ -1,7 +1,8 @@
 /* Counts the atomic steps of the calls of a memory, and stops a thread before each of them in turn. The library calls
  * partial_step before each atomic step on a word of a memory. The words of this program are the greatest numbers of
- * steps in a memory of 3 components and 2 ports: of a change of epoch, an update, a conditional update, and a scan of
- * all components. It writes a line for each test that failed, the most steps that were counted, and the counts. */
+ * steps in a memory of 3 components and 2 ports: of an update, a conditional update, and a scan of all components; and
+ * of a change of epoch in one of MANY components, the fewest with which scans of 2 ports don't announce themselves. It
+ * writes a line for each test that failed, the most steps that were counted, and the counts. */
 #include "partial.h"
 
 #include <pthread.h>
@@ -11,6 +12,7 @@
 
 enum { COMPONENTS = 3, COMPARED = 2, TURNS = 100000, READ = 8, UNCHANGED = 4 + 2 * COMPARED, MEET = 12 };
 enum { PATIENCE = 64, ROUNDS = 16, EPOCHS = 3 };
+enum { FEW = 4, TRIES = 64, HISTORY = 16 * MANY };
 
 /* What a call is asked for. */
 enum kind { UPDATES, UPDATES_IF, READS, SCANS, SCANS_STAMPED, COMPARES, KINDS };
@@ -32,6 +34,24 @@ static _Thread_local uint64_t stop;
 static sem_t stopped;
 static sem_t goes_on;
 
+/* Updates beside a scan of many components: one before each step of the scan but those after `quiet` up to `loud`. The
+ * k-th sets a component to k, each position of the scan in turn. */
+struct beside {
+    partial_port *port;
+    const uint32_t *which;
+    uint64_t positions;
+    uint64_t quiet;
+    uint64_t loud;
+    uint64_t before; /* how many there were before the quiet steps */
+    uint64_t made;
+};
+
+static _Thread_local struct beside *beside;
+/* The stamps of these updates: that of the k-th is number k. */
+static uint64_t history[HISTORY];
+
+static void overtake(struct beside *it);
+
 void partial_step(void);
 
 void partial_step(void)
@@ -39,6 +59,9 @@ void partial_step(void)
     if (++steps == stop) {
         sem_post(&stopped);
         sem_wait(&goes_on);
+    }
+    if (beside && (steps <= beside->quiet || steps > beside->loud)) {
+        overtake(beside);
     }
 }
 
@@ -61,13 +84,36 @@ static void need(int holds, const char *what)
     }
 }
 
-/* Makes a memory, and takes out all its ports. */
-static void make(partial_memory *memory, partial_port *ports, uint32_t count)
+/* Makes the next of these updates, of which no step counts. */
+static void overtake(struct beside *it)
 {
-    need(partial_memory_new(initial, COMPONENTS, count, memory) == 0, "a memory is made");
+    const uint64_t counted = steps;
+    partial_update_answer set;
+    uint32_t component = it->which[it->made % it->positions];
+    need(++it->made < HISTORY, "there is room for a stamp");
+    beside = NULL;
+    need(partial_port_update(it->port, component, it->made, &set) == 0, "an update beside a scan is made");
+    need(set.applied, "and applied");
+    beside = it;
+    steps = counted;
+    history[it->made] = set.stamp;
+    if (steps <= it->quiet) {
+        it->before = it->made;
+    }
+}
+
+/* Makes a memory, and takes out all its ports. */
+static void make_of(const uint64_t *values, size_t components, partial_memory *memory, partial_port *ports, uint32_t count)
+{
+    need(partial_memory_new(values, components, count, memory) == 0, "a memory is made");
     for (uint32_t k = 0; k < count; k++) {
         need(partial_memory_take_port(memory, &ports[k]) == 0, "a port is taken");
     }
+}
+
+static void make(partial_memory *memory, partial_port *ports, uint32_t count)
+{
+    make_of(initial, COMPONENTS, memory, ports, count);
 }
 
 static void drop(partial_memory *memory, partial_port *ports, uint32_t count)
@@ -329,20 +375,154 @@ static void test_threads(void)
     drop(&memory, ports, 2);
 }
 
+/* A scan of the memory of many components: its positions, and what it has found. */
+static uint32_t which[MANY];
+static uint64_t values[MANY];
+static uint64_t seen[MANY];
+/* The most steps of a change of epoch there, by contract. */
+static uint64_t most_of_change;
+
+static uint64_t tries(uint64_t r)
+{
+    return MANY / r < TRIES ? MANY / r : TRIES;
+}
+
+/* The last steps of a scan of so many positions load the values, and perhaps the stamps. */
+static uint64_t loads(enum kind kind, uint64_t r)
+{
+    return kind == SCANS_STAMPED ? 2 * r : r;
+}
+
+/* How many steps it makes there at most, by contract. */
+static uint64_t most_of_scan(enum kind kind, uint64_t r)
+{
+    return (1 + tries(r)) * (3 * r + 1) + 8 + most_of_change + loads(kind, r);
+}
+
+/* Scans these positions, and returns how many steps that took. */
+static uint64_t scan_many(partial_port *port, enum kind kind, size_t r)
+{
+    partial_scan_answer answer = {0, 0, 0};
+    uint32_t code;
+    steps = 0;
+    if (kind == SCANS) {
+        code = partial_port_scan(port, which, r, values, r, &answer);
+    } else {
+        code = partial_port_scan_stamped(port, which, r, values, r, seen, r, &answer);
+    }
+    uint64_t made = steps;
+    check(code == 0 && answer.collects == 2 && !answer.borrowed, "it succeeds, and takes no view", names[kind]);
+    check(made <= most_of_scan(kind, r), "it makes no more steps beside updates than it may", names[kind]);
+    return made;
+}
+
+/* After how many of the updates the components had the values and stamps that a scan has found; 0 when they never had. */
+static uint64_t stood(enum kind kind, uint64_t r)
+{
+    uint64_t last = 0;
+    for (uint64_t k = 0; k < r; k++) {
+        last = greater(last, values[k]);
+    }
+    for (uint64_t k = 0; k < r; k++) {
+        /* Of the first `last` updates the last one of position k. */
+        if (last <= k || last >= HISTORY || values[k] != last - (last - 1 - k) % r) {
+            return 0;
+        }
+        if (kind == SCANS_STAMPED && seen[k] != history[values[k]]) {
+            return 0;
+        }
+    }
+    return last;
+}
+
+/* A port whose epoch the scan of another one has ended: its double collect succeeds there, and changes no epoch. */
+static void test_undisturbed(partial_port *port, enum kind kind, uint64_t r, uint64_t last)
+{
+    uint64_t made = scan_many(port, kind, r);
+    check(made == 6 + 2 * r + loads(kind, r), "a load, two looks, three steps of entering and a double collect",
+          names[kind]);
+    check(stood(kind, r) == last, "it finds what the scan has found that ended its epoch", names[kind]);
+}
+
+/* Scans so many positions beside updates, which pause after the step `quiet` and go on after the step `loud`. Returns how
+ * many steps the scan made. */
+static uint64_t scan_beside(enum kind kind, uint64_t r, uint64_t quiet, uint64_t loud)
+{
+    static const uint64_t zeros[MANY];
+    partial_memory memory = PARTIAL_EMPTY;
+    partial_port ports[2] = {PARTIAL_EMPTY, PARTIAL_EMPTY};
+    struct beside it = {&ports[1], which, r, quiet, loud, 0, 0};
+    partial_update_answer set;
+    make_of(zeros, MANY, &memory, ports, 2);
+    beside = &it;
+    uint64_t made = scan_many(&ports[0], kind, r);
+    beside = NULL;
+    uint64_t last = stood(kind, r);
+    check(last > 0, "it finds what stood together", names[kind]);
+    if (quiet > 0) {
+        check(last == it.before, "it finds what stood as its epoch ended", names[kind]);
+        check(epoch(history[last]) == epoch(history[1]), "it changes no epoch while it tries", names[kind]);
+    }
+    if (it.made == it.before) {
+        test_undisturbed(&ports[1], kind, r, last);
+    }
+    need(partial_port_update(&ports[1], 0, 0, &set) == 0, "an update after a scan is made");
+    check(epoch(set.stamp) == epoch(history[1]) + 1, "one epoch more has opened", names[kind]);
+    drop(&memory, ports, 2);
+    return made;
+}
+
+/* Scans so many positions of a memory whose scans don't announce themselves. Each double collect meets an update at its
+ * first comparison: so after r + 1 steps it fails. Updates pause while the scan changes the epoch, and are made while it
+ * loads the values, or they never pause: then one of them meets a seal, and changes the epoch before the scan does. Returns
+ * how many steps the scan's own change of epoch made. */
+static uint64_t scan_by_change(enum kind kind, uint64_t r)
+{
+    for (uint32_t k = 0; k < r; k++) {
+        which[k] = k * (uint32_t)(MANY / r);
+    }
+    /* The look by which the port would enter a later epoch is a step too. */
+    const uint64_t tried = (1 + tries(r)) * (r + 1) + 1;
+    const uint64_t made = scan_beside(kind, r, tried, UINT64_MAX);
+    const uint64_t again = scan_beside(kind, r, tried, made - loads(kind, r));
+    check(again == made, "updates of the next epoch don't disturb it", names[kind]);
+    const uint64_t most = greater(made, scan_beside(kind, r, 0, 0));
+    printf("%s by a change of epoch: %llu of %d components, at most %llu steps of %llu\n", names[kind],
+           (unsigned long long)r, MANY, (unsigned long long)most, (unsigned long long)most_of_scan(kind, r));
+    return made - tried - loads(kind, r);
+}
+
+/* Two steps seal a component, and seven set its words in the next epoch; the stamp of one that was updated isn't loaded. */
+static void test_scans_by_change(void)
+{
+    const uint64_t positions[] = {1, FEW, MANY / 10, MANY};
+    const uint64_t half = MANY / 2;
+    const uint64_t change = scan_by_change(SCANS, half) + half;
+    check(change > 9 * MANY && change <= most_of_change, "it changes the epoch by itself", names[SCANS]);
+    for (enum kind kind = SCANS; kind <= SCANS_STAMPED; kind++) {
+        for (size_t k = 0; k < sizeof positions / sizeof *positions; k++) {
+            check(scan_by_change(kind, positions[k]) + positions[k] == change,
+                  "it tries as often as it may, and then changes the epoch in as many steps as any scan", names[kind]);
+        }
+    }
+}
+
 int main(int count, char **words)
 {
-    need(count == 4, "the words are the bounds of an update, a conditional update and a scan");
+    need(count == 5, "the words are the bounds of an update, a conditional update, a scan and a change of epoch");
     bounds[UPDATES] = strtoull(words[1], NULL, 10);
     bounds[UPDATES_IF] = strtoull(words[2], NULL, 10);
     bounds[READS] = READ;
     bounds[SCANS] = strtoull(words[3], NULL, 10);
     bounds[SCANS_STAMPED] = bounds[SCANS] + COMPONENTS;
     bounds[COMPARES] = UNCHANGED;
+    most_of_change = strtoull(words[4], NULL, 10);
     need(sem_init(&stopped, 0, 0) == 0 && sem_init(&goes_on, 0, 0) == 0, "semaphores are made");
     test_ended_epochs();
     test_meeting();
     test_stopped();
     test_threads();
+    test_scans_by_change();
     printf("%d passed, %d failed\n", passed, failed);
     return failed != 0;
 }

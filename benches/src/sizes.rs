@@ -141,7 +141,7 @@ mod tests {
 
     #[test]
     fn a_memory_that_does_not_open_has_no_sample() {
-        assert_eq!(sample(40_000, 64), None);
+        assert_eq!(sample(64, 256), None);
         assert_eq!(cell(Vec::new()), "-");
         assert_eq!((grouped(64), grouped(1_024)), ("64".to_string(), "1,024".to_string()));
     }

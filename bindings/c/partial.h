@@ -157,11 +157,12 @@ static inline int partial_is_transient(uint32_t code)
 /* The sizes of an arena of a `partial_memory`, which has two arenas for each port. */
 typedef struct partial_arena {
     uint32_t list_words; /* for the lists of vacated slots: at most 65536 */
-    uint32_t pool_words; /* claimed before the epoch changes: at most 4194304, less 97 for
-                            each port, 2 for each port and component, and 3 for each
-                            component; 0 for as many as suit the number of ports (below).
-                            An update takes 3 of them when nobody scans. A claim has up to
-                            93 more, which later updates of the same port take */
+    uint32_t pool_words; /* claimed before the epoch changes: at most 4194304, less 3 for
+                            each component and the room for the greatest claim of each
+                            port (below); 0 for as many as suit the numbers of ports and
+                            components (below). An update takes 3 of them when nobody
+                            scans. A claim has up to 93 more, which later updates of the
+                            same port take */
 } partial_arena;
 
 /* The sizes of an opening, apart from the number of its components. */
@@ -261,11 +262,16 @@ static inline uint64_t partial_next_number(void)
  * for each value in `initial`, and holds `ports` ports, 1 to 255. `arena` says how large
  * its arenas are.
  *
+ * When ports times components is at most 65536, a scan may announce itself, so that
+ * updates help it: then the greatest claim of a port has 97 words, and 2 more for each
+ * component. Otherwise it has 96 words, and a scan whose collects differ again and again
+ * changes the epoch, which takes longer the more components there are.
+ *
  * 23: a pointer is null. 31: the library is of another version than this header. 18: the
  * handle holds something. 5: there are not 1 to 255 ports. 1: there are not 1 to 65536
- * values. 3: there are more than 65536 list words. 4: the pool words, with 97 for each
- * port, 2 for each port and component, and 3 for each component, are more than 4194304.
- * 6: an allocation was refused. The handle is as it was.
+ * values. 3: there are more than 65536 list words. 4: the pool words, with the greatest
+ * claim of each port and 3 for each component, are more than 4194304. 6: an allocation was
+ * refused. The handle is as it was.
  */
 static inline uint32_t partial_memory_new_with(const uint64_t *initial, size_t components,
                                                uint32_t ports, const partial_arena *arena,
@@ -283,9 +289,10 @@ static inline uint32_t partial_memory_new_with(const uint64_t *initial, size_t c
 }
 
 /*
- * The same, with arenas of 1024 list words, and of 16384 pool words for each port. But
- * these are no more than 131072 divided by the number of ports, or 16 for each component
- * if that is more; no more than there is room for; and always 8192 at least.
+ * The same, with arenas of 1024 list words, and of 16384 pool words for each port, but no
+ * more than 131072 divided by the number of ports; or of 16 for each component, but no more
+ * than 33554432 divided by the number of ports, if that is more. They are no more than
+ * there is room for, and always 8192 at least. So neither 3 nor 4 is returned.
  */
 static inline uint32_t partial_memory_new(const uint64_t *initial, size_t components,
                                           uint32_t ports, partial_memory *memory)

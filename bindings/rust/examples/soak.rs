@@ -245,8 +245,8 @@ fn run(memory: &Memory, threads: u32, time: Duration, recorded: bool) -> (Counts
 fn main() -> Result<(), Box<dyn Error + Send + Sync>> {
     let words: Vec<String> = std::env::args().skip(1).collect();
     let threads = words.first().map_or(Ok(64), |word| word.parse())?;
-    if !(SCANNED as u32..=64).contains(&threads) {
-        return Err("there are 4 to 64 threads".into());
+    if !(SCANNED as u32..=255).contains(&threads) {
+        return Err("there are 4 to 255 threads".into());
     }
     let seconds = words.get(1).map_or(Ok(5.0), |word| word.parse())?;
     let pool_words = words.get(2).map_or(Ok(512), |word| word.parse())?;

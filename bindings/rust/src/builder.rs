@@ -5,10 +5,17 @@ use crate::raw;
 use crate::sizes;
 use crate::OpenError;
 
-/// How many ports a memory has, and how large its arenas are. There are two arenas for each port. An arena of `m`
-/// components and `p` ports has `5 m + 4 + list_words + pool_words + (97 + 2 m) p` words of 8 bytes and its slots: one
-/// for each 8 pool words, and one for each port. They are rounded up to a multiple of 16, unless there are 65,536 slots,
-/// the most. While a memory opens, its words are there twice.
+/// How many ports a memory has, and how large its arenas are. There are two arenas for each port.
+///
+/// An arena of `m` components and `p` ports has `5 m + 4 + list_words + pool_words` words of 8 bytes, room for the
+/// greatest claim of each port, and slots. When `m` times `p` is at most 65,536, the room is `(97 + 2 m) p` words, and
+/// there is a slot for each 8 pool words and one for each port. When it is more, the room is `96 p` words, and there is a
+/// slot for each port. The words are rounded up to a multiple of 16, unless there are 65,536 slots, the most. While a
+/// memory opens, its words are there twice.
+///
+/// With up to 65,536 components times ports, a scan whose two collects differ announces itself, so that updates help it.
+/// With more it collects again, up to 64 times, and then changes the epoch: it has the values with which the next one
+/// begins. That takes longer the more components there are, and updates beside it have to enter the next epoch.
 ///
 /// ```
 /// use partial_door::Memory;
@@ -33,7 +40,8 @@ impl Default for Builder {
 }
 
 impl Builder {
-    /// How many ports there are: 1 to 255. Fewer ports take less memory, and allow more components.
+    /// How many ports there are: 1 to 255. Fewer ports take less memory, and with fewer of them scans are helped in
+    /// memories of more components.
     ///
     /// ```
     /// use partial_door::{Memory, PortError};
@@ -63,17 +71,19 @@ impl Builder {
     /// How many pool words of an arena are claimed before the epoch changes. An update takes 3 of them, or 4 and 2
     /// more for each component of a view that it stores; a scan claims 1, and 1 more for each position. With the words
     /// of its record an update claims up to 93 more, which its port keeps for later updates of the epoch: all ports
-    /// keep an eighth of the pool words at most. The words and the room of `97 + 2 m` words for each port, for `m`
-    /// components, and `3 m` more, are at most 4,194,304 together.
+    /// keep an eighth of the pool words at most. The words, the room for the greatest claim of each port, and `3 m` words
+    /// for the initial values of `m` components are at most 4,194,304 together.
     ///
     /// 0 is the number that a memory has by default: 16,384 for each port, but no more than 131,072 divided by the number
-    /// of ports; or 16 for each component, if that is more. It is no more than there is room for, and never below 8,192.
+    /// of ports; or 16 for each component, but no more than 33,554,432 divided by the number of ports, if that is more.
+    /// It is no more than there is room for, and never below 8,192. With it a memory of any number of components and
+    /// ports has room.
     ///
     /// ```
     /// use partial_door::{Memory, OpenError};
     ///
     /// assert_eq!(Memory::builder().pool_words(4_194_305).open(&[1]).err(), Some(OpenError::PoolWords));
-    /// assert_eq!(Memory::builder().ports(64).open(&[0; 40_000]).err(), Some(OpenError::PoolWords));
+    /// assert_eq!(Memory::builder().pool_words(4_190_000).open(&[0; 79]).err(), Some(OpenError::PoolWords));
     /// assert!(Memory::builder().ports(4).open(&[0; 40_000]).is_ok());
     /// ```
     pub fn pool_words(mut self, words: u32) -> Builder {
@@ -81,19 +91,21 @@ impl Builder {
         self
     }
 
-    /// How many components a memory with so many ports and such arenas may have: with more, or when this is 0, it isn't
-    /// made.
+    /// The greatest number of components that a memory with so many ports and such arenas may have: 65,536, unless it is
+    /// to have more than 3,860,000 pool words. When it is 0 no memory is made. With more than 3,900,000 pool words some
+    /// smaller numbers may be refused: as many as let scans announce themselves, for which an arena needs more room.
     ///
     /// ```
     /// use partial_door::Memory;
     ///
     /// assert_eq!(Memory::builder().max_components(), 65_536);
-    /// assert_eq!(Memory::builder().ports(64).max_components(), 31_907);
+    /// assert_eq!(Memory::builder().ports(255).max_components(), 65_536);
+    /// assert_eq!(Memory::builder().pool_words(4_190_000).max_components(), 78);
     /// assert_eq!(Memory::builder().ports(256).max_components(), 0);
     /// ```
     #[must_use]
     pub fn max_components(&self) -> usize {
-        sizes::max_components(self.ports, self.arena)
+        sizes::max_components(self.ports, &self.arena)
     }
 
     /// Makes a memory whose components hold these values.

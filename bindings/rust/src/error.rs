@@ -183,10 +183,10 @@ impl CloseError {
 impl fmt::Display for OpenError {
     fn fmt(&self, f: &mut fmt::Formatter<'_>) -> fmt::Result {
         f.write_str(match self {
-            OpenError::Ports => "ports out of range",
-            OpenError::Components => "components out of range",
-            OpenError::ListWords => "list words out of range",
-            OpenError::PoolWords => "pool words out of range",
+            OpenError::Ports => "ports out of range: 1 to 255, with any number of components",
+            OpenError::Components => "components out of range: 1 to 65536, with any number of ports",
+            OpenError::ListWords => "list words out of range: at most 65536",
+            OpenError::PoolWords => "pool words out of range: fewer leave room for these components and ports",
             OpenError::OutOfMemory => "out of memory",
             OpenError::OtherVersion => "the library is of another version than the crate",
         })

@@ -3,10 +3,11 @@
 //!
 //! Each memory is a table behind a lock, which each call holds. So no call is helped or overtaken, no update is lost, and a
 //! call waits for the others. Updates claim pool words as those of the library that store no view do, so epochs change and
-//! openings wear out here too.
+//! openings wear out here too. A scan finds its values at once, whatever the sizes: it neither announces itself nor changes
+//! the epoch. Openings are refused for the same sizes as the library's.
 
 use crate::counted::Counted;
-use crate::sizes::{ahead_of, max_components, pool_of, MOST_PORTS};
+use crate::sizes::{ahead_of, fits, pool_of, MOST_PORTS};
 use std::mem::take;
 use std::ops::Range;
 use std::slice::{from_raw_parts, from_raw_parts_mut};
@@ -234,7 +235,7 @@ pub unsafe fn partial_door_memory_new(
         _ if !(1..=MOST_PORTS).contains(&ports) => Err(5),
         _ if !(1..=65_536).contains(&components) => Err(1),
         _ if arena.list_words > 65_536 => Err(3),
-        _ if components > max_components(ports, *arena) => Err(4),
+        _ if !fits(components, ports, arena) => Err(4),
         _ => listed(initial, components)
             .and_then(|values| make(lasting(pool_of(components, ports, arena), ports), values, ports))
             .map(|held| memory.held = held),

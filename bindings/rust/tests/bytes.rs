@@ -38,6 +38,14 @@ fn a_memory_takes_as_many_bytes_as_it_says() {
         (8, 0, 1024, 3_000),
         (64, 0, 1024, 3),
         (3, 50_000, 11, 37),
+        // With up to 65,536 components times ports scans announce themselves, for which there is more room.
+        (2, 0, 1024, 32_768),
+        (2, 0, 1024, 32_769),
+        (16, 0, 64, 4_096),
+        (16, 0, 64, 4_097),
+        (7, 20_001, 3, 9_362),
+        (7, 20_001, 3, 9_363),
+        (3, 0, 0, 30_000),
     ] {
         let before = mapped();
         let memory = Memory::builder()

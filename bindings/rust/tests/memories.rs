@@ -143,7 +143,8 @@ fn a_memory_is_refused_with_the_first_cause() {
     assert_eq!(Memory::builder().ports(1).open(&[0; 65_537]).err(), Some(OpenError::Components));
     assert!(Memory::builder().ports(4).open(&[0; 65_536]).is_ok());
     assert!(Memory::builder().ports(64).open(&[0; 1_000]).is_ok());
-    assert_eq!(Memory::builder().ports(64).open(&[0; 31_908]).err(), Some(OpenError::PoolWords));
+    let most = Memory::builder().ports(64).pool_words(4_000_000);
+    assert_eq!(most.open(&[0; 62_721]).err(), Some(OpenError::PoolWords));
 }
 
 /// How many updates each of the first epochs has, when so many ports of such a memory update component 0 in turns.

@@ -22,6 +22,30 @@ fn the_greatest_number_of_components_is_where_the_library_refuses_more() {
     }
 }
 
+#[test]
+fn fewer_components_may_be_refused_when_scans_announce_themselves() {
+    // 2 ports want 194 + 4 m words for their greatest claims as long as they have up to 32,768 components, and then 192.
+    assert_eq!(Memory::builder().ports(2).pool_words(4_000_000).max_components(), 64_704);
+    for (components, error) in
+        [(27_730, None), (27_731, Some(OpenError::PoolWords)), (32_768, Some(OpenError::PoolWords)), (32_769, None)]
+    {
+        assert_eq!(opens(2, 4_000_000, 7, components).err(), error, "{components}");
+    }
+}
+
+#[test]
+fn a_memory_of_64_ports_has_room_for_all_components() {
+    // It takes nearly a gigabyte, and twice that while it opens: no other test makes one.
+    const COMPONENTS: usize = 65_536;
+    let memory = opens(64, 0, 1024, COMPONENTS).expect("a memory is made");
+    let mut port = memory.port().expect("a port is free");
+    assert!(port.update(65_535, 7).expect("it isn't refused").is_applied());
+    let mut values = vec![1; COMPONENTS];
+    assert_eq!(port.scan_all(&mut values).expect("it isn't refused").borrowed, None);
+    assert!(values[..65_535].iter().all(|&value| value == 0));
+    assert_eq!(values[65_535], 7);
+}
+
 /// Why a memory of one component more is refused.
 fn refusal(most: usize) -> OpenError {
     if most == 65_536 {

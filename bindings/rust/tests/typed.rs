@@ -221,11 +221,11 @@ fn keys_of_one_component_are_equal_and_no_others() {
 fn a_layout_is_refused_as_its_values_are() {
     assert_eq!(Layout::new().open().err(), Some(OpenError::Components));
     let mut layout = Layout::new();
-    for value in 0..31_908_u32 {
+    for value in 0..79_u32 {
         let key = layout.add(value);
         assert_eq!(key.component(), value);
     }
-    assert_eq!(layout.open_with(Memory::builder().ports(64)).err(), Some(OpenError::PoolWords));
+    assert_eq!(layout.open_with(Memory::builder().pool_words(4_190_000)).err(), Some(OpenError::PoolWords));
 }
 
 #[test]

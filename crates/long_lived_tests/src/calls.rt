@@ -3,7 +3,7 @@
 ghost use Rattle.std.specs.Prelude.{◌≤◌};
 ghost use Rattle.partial_long_lived.specs.Ports.{IsOf};
 
-use crate::memories::{SPENT, one, pair};
+use crate::memories::{SILENT, SPENT, one, pair};
 use partial_long_lived::{LongLived, Options, Port, Refused, Updated};
 use std::process::Abort;
 use std::test::Fail;
@@ -135,6 +135,47 @@ fn ports_in_two_epochs(rt: HostRuntime) -> Result<(), Fail> {
     Ok(())
 }
 
+// Scans in another epoch than the port's own aren't announced.
+#[test]
+fn unannounced_scans(rt: HostRuntime) -> Result<(), Fail> {
+    let (memory, mut first, mut last) = pair(rt.alloc(), SILENT)?;
+    takes_turns(&rt, &memory, &mut first, &mut last);
+    drop((memory, first, last));
+    Ok(())
+}
+
+// The first port is spent in the first epoch, which the other one ends. It scans in a later one, where it isn't spent.
+fn scans_spent(rt: &impl Abort, memory: &LongLived, first: &mut Port, last: &mut Port)
+    requires first { IsOf memory.now first.old }
+    requires last { IsOf memory.now last.old }
+    requires both { 2 ≤ memory.now.about.sizes.m }
+{
+    sets_first(rt, memory, first, 11);
+    sets_first(rt, memory, last, 12);
+    sets_first(rt, memory, last, 13);
+    shows(rt, memory, first, [13, 20]);
+    sets_first(rt, memory, first, 14);
+    shows(rt, memory, last, [14, 20]);
+}
+
+// A spent port announces its scan.
+#[test]
+fn announced_scans_of_spent_ports(rt: HostRuntime) -> Result<(), Fail> {
+    let (memory, mut first, mut last) = pair(rt.alloc(), SPENT)?;
+    scans_spent(&rt, &memory, &mut first, &mut last);
+    drop((memory, first, last));
+    Ok(())
+}
+
+// A spent port scans without an announcement.
+#[test]
+fn unannounced_scans_of_spent_ports(rt: HostRuntime) -> Result<(), Fail> {
+    let (memory, mut first, mut last) = pair(rt.alloc(), SILENT)?;
+    scans_spent(&rt, &memory, &mut first, &mut last);
+    drop((memory, first, last));
+    Ok(())
+}
+
 // Scans that no update disturbs store nothing, so that not even a spent port changes the epoch by them: the stamp of
 // the next update is one of the first epoch.
 fn scans_alone(rt: &impl Abort, memory: &LongLived, first: &mut Port, last: &mut Port)
@@ -156,6 +197,15 @@ fn scans_alone(rt: &impl Abort, memory: &LongLived, first: &mut Port, last: &mut
 #[test]
 fn scans_of_spent_ports(rt: HostRuntime) -> Result<(), Fail> {
     let (memory, mut first, mut last) = pair(rt.alloc(), SPENT)?;
+    scans_alone(&rt, &memory, &mut first, &mut last);
+    drop((memory, first, last));
+    Ok(())
+}
+
+// The same in a memory whose scans don't announce themselves.
+#[test]
+fn undisturbed_scans_of_spent_ports(rt: HostRuntime) -> Result<(), Fail> {
+    let (memory, mut first, mut last) = pair(rt.alloc(), SILENT)?;
     scans_alone(&rt, &memory, &mut first, &mut last);
     drop((memory, first, last));
     Ok(())
@@ -209,6 +259,15 @@ fn meets(rt: &impl Abort, memory: &LongLived, first: &mut Port, last: &mut Port)
 #[test]
 fn meetings(rt: HostRuntime) -> Result<(), Fail> {
     let (memory, mut first, mut last) = pair(rt.alloc(), SPENT)?;
+    meets(&rt, &memory, &mut first, &mut last);
+    drop((memory, first, last));
+    Ok(())
+}
+
+// The same ports meet where their scans aren't announced.
+#[test]
+fn meetings_beside_unannounced_scans(rt: HostRuntime) -> Result<(), Fail> {
+    let (memory, mut first, mut last) = pair(rt.alloc(), SILENT)?;
     meets(&rt, &memory, &mut first, &mut last);
     drop((memory, first, last));
     Ok(())

@@ -13,6 +13,7 @@ use std::test::Fail;
 const SMALL: Options = Options {
     lists: 2,
     pool: Some(8),
+    announce: None,
 };
 
 // How many ports a memory has that opens with two.

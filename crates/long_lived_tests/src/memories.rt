@@ -12,6 +12,14 @@ use std::test::Fail;
 pub(super) const SPENT: Options = Options {
     lists: 2,
     pool: Some(1),
+    announce: None,
+};
+
+/// The same, in a memory whose scans don't announce themselves.
+pub(super) const SILENT: Options = Options {
+    lists: 2,
+    pool: Some(1),
+    announce: Some(false),
 };
 
 /// Takes the last one of some ports of a memory.

@@ -94,10 +94,12 @@ fn refused_openings(rt: HostRuntime) -> Result<(), Fail> {
     let most = Options {
         lists: 65_536,
         pool: Some(4_194_202),
+        announce: None,
     };
     let lists = Options {
         lists: 65_537,
         pool: Some(4_194_203),
+        announce: None,
     };
     let pool = Options {
         pool: Some(4_194_203),
@@ -109,6 +111,39 @@ fn refused_openings(rt: HostRuntime) -> Result<(), Fail> {
     refused(&rt, alloc, &[1], 1, lists, OpenError::Lists);
     refused(&rt, alloc, &[1], 1, pool, OpenError::Pool);
     assert_eq!(rt; opened_ports(alloc, most)?, 1);
+    Ok(())
+}
+
+// When scans don't announce themselves, a record has 3 words, where one with a view of one component has 6.
+#[test]
+fn openings_without_announcements(rt: HostRuntime) -> Result<(), Fail> {
+    let alloc = rt.alloc();
+    let most = Options {
+        lists: 65_536,
+        pool: Some(4_194_205),
+        announce: Some(false),
+    };
+    let pool = Options {
+        pool: Some(4_194_206),
+        ..most
+    };
+    refused(&rt, alloc, &[1], 1, pool, OpenError::Pool);
+    assert_eq!(rt; opened_ports(alloc, most)?, 1);
+    Ok(())
+}
+
+// With very many components and ports an arena has no room for views.
+#[test]
+fn refused_announcements(rt: HostRuntime) -> Result<(), Fail> {
+    let alloc = rt.alloc();
+    let announced = Options {
+        lists: 1_024,
+        pool: None,
+        announce: Some(true),
+    };
+    let values = vec![in alloc; 0; 40_000]?;
+    refused(&rt, alloc, &values, 64, announced, OpenError::Pool);
+    drop(values);
     Ok(())
 }
 
@@ -181,6 +216,16 @@ fn pools_for_many_components(rt: HostRuntime) -> Result<(), Fail> {
     Ok(())
 }
 
+// So many it also has when no scan announces itself, with more than 65,536 components times ports.
+#[test]
+fn pools_without_announcements(rt: HostRuntime) -> Result<(), Fail> {
+    let alloc = rt.alloc();
+    let values = vec![in alloc; 0; 1_025]?;
+    claims(&rt, alloc, &values, 64, 16_400)?;
+    drop(values);
+    Ok(())
+}
+
 // A refusal has that text.
 fn says(rt: &impl Abort, alloc: Global, error: OpenError, text: &str) -> Result<(), Fail> {
     let said = format!(in alloc; "{error}")?;
@@ -193,10 +238,26 @@ fn says(rt: &impl Abort, alloc: Global, error: OpenError, text: &str) -> Result<
 #[test]
 fn refusals(rt: HostRuntime) -> Result<(), Fail> {
     let all = [
-        (OpenError::Ports, 5, "ports out of range"),
-        (OpenError::Components, 1, "components out of range"),
-        (OpenError::Lists, 3, "list words out of range"),
-        (OpenError::Pool, 4, "pool words out of range"),
+        (
+            OpenError::Ports,
+            5,
+            "ports out of range: 1 to 255, with any number of components",
+        ),
+        (
+            OpenError::Components,
+            1,
+            "components out of range: 1 to 65536, with any number of ports",
+        ),
+        (
+            OpenError::Lists,
+            3,
+            "list words out of range: at most 65536",
+        ),
+        (
+            OpenError::Pool,
+            4,
+            "pool words out of range: fewer leave room for these components and ports",
+        ),
         (OpenError::OutOfMemory, 6, "out of memory"),
     ];
     for (error, code, text) in &all {

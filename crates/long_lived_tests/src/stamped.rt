@@ -3,7 +3,7 @@
 ghost use Rattle.std.specs.Prelude.{◌≤◌};
 ghost use Rattle.partial_long_lived.specs.Ports.{IsOf};
 
-use crate::memories::{SPENT, one, pair};
+use crate::memories::{SILENT, SPENT, one, pair};
 use partial_long_lived::{LongLived, Options, Port, Refused, Scanned, Updated, UpdatedIf};
 use std::process::Abort;
 use std::test::Fail;
@@ -76,8 +76,8 @@ fn are_in_two_epochs(rt: &impl Abort, one: u64, two: u64) {
 }
 
 // The first port sets component 0 in two epochs, and scans with stamps in both. The other one, which stands in the
-// first epoch, then announces its scan in the second one, and is given the stamps there. An update may expect a stamp
-// that a scan has given.
+// first epoch, then scans in a later one, and is given the stamps there. An update may expect a stamp that a scan has
+// given.
 fn tells_stamps(rt: &impl Abort, memory: &LongLived, first: &mut Port, last: &mut Port)
     requires first { IsOf memory.now first.old }
     requires last { IsOf memory.now last.old }
@@ -99,6 +99,15 @@ fn tells_stamps(rt: &impl Abort, memory: &LongLived, first: &mut Port, last: &mu
 #[test]
 fn stamps_are_told_over_epochs(rt: HostRuntime) -> Result<(), Fail> {
     let (memory, mut first, mut last) = pair(rt.alloc(), SPENT)?;
+    tells_stamps(&rt, &memory, &mut first, &mut last);
+    drop((memory, first, last));
+    Ok(())
+}
+
+// The scan of the other port isn't announced: it gives the stamps with which an epoch begins.
+#[test]
+fn stamps_are_told_without_announcements(rt: HostRuntime) -> Result<(), Fail> {
+    let (memory, mut first, mut last) = pair(rt.alloc(), SILENT)?;
     tells_stamps(&rt, &memory, &mut first, &mut last);
     drop((memory, first, last));
     Ok(())

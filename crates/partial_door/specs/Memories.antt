@@ -5,7 +5,7 @@ use Rattle.partial_words.specs.Layout.{first_free, pool_base}
 use Rattle.partial_long_lived.specs.declared.options.Options.{Options}
 use Rattle.partial_long_lived.specs.declared.open_error.OpenError.{OpenError}
 use Rattle.partial_long_lived.specs.Rule.{newcomers}
-use Rattle.partial_long_lived.specs.Options.{MayNotOpen, claimed_pool, layout_for, open_code}
+use Rattle.partial_long_lived.specs.Options.{MayNotOpen, announces_for, claimed_pool, layout_for, open_code}
 use Rattle.partial_long_lived.specs.Ports.{MemoryView, PortView, new_ports}
 use Rattle.partial_long_lived.specs.Calls.{Meets}
 use Rattle.partial_long_lived.specs.Closing.{Closes}
@@ -29,12 +29,13 @@ HoldsNeither _ = Unit {0}
 
 -- the options with these sizes of an arena: no pool words leave their number open
 abbrev pub options_of : ArenaSizes → Options
-options_of a = record { lists = a.lists; pool = if a.pool == 0 then None else Some a.pool }
+options_of a = record { lists = a.lists; pool = if a.pool == 0 then None else Some a.pool; announce = None }
 
 -- a memory that has just opened with these values, so many ports, and these options, and its ports
 pub record IsNewMemory (initial : List ℕ) (ports : ℕ) (o : Options) (v : MemoryView) (all : List PortView) : Type 0 where
   pub sizes : v.about.sizes ≡ layout_for (length initial) ports o
   pub limit : v.about.limit ≡ first_free v.about.sizes + claimed_pool (length initial) ports o
+  pub announces : v.about.announces ≡ announces_for (length initial) ports o
   pub many : (v.about.ports ≡ ports) × (v.about.arenas ≡ 2 * ports)
   pub values : v.about.opening.values ≡ initial
   pub first : v.about.opening.first ≡ pool_base v.about.sizes

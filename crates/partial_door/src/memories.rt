@@ -55,6 +55,7 @@ pub fn options_for(arena: &ArenaSizes) -> Options
             0 => None,
             words => Some(words),
         },
+        announce: None,
     }
 }
 

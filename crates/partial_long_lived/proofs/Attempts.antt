@@ -1,5 +1,5 @@
 -- An attempt of an update in the epoch where a port stands.
-use Rattle.partial_long_lived.proofs.{Common.{Opening, ℕ, ◌≡◌, ◌≢◌, ◌+◌, ◌<◌, ◌≤◌, ◌==◌, ◌++◌, Bool, true, false, if◌then◌else◌, Option, None, Some, Ok, List, [], ◌∷◌, length, map, refl, sym, ap, subst, ◌∙◌, inl, inr, arith, option_map_or, nat_lt, is_some, lt-ltb, eqb_tells, length-map, TableId, Applied, Call, Answer, Note, stamp_of, Noted, place_of, Load, Exchange, IsLayout, Layout, pool_end, Change, Reply, Stage, Exchanging, Finished, UpdateBegun, CoreState, advance_at, answers_lead_on, at_stage, begin_getting, seat_left_at, most_of_update, seat_steps_left, lists_spent, overtaken_reply, reply_of, step_at, step_of, answer_for, call_of, update_call, IsRecord, IsSound, is_sound_at, Part, AreNotesOf, IsNoteOf, IsPlacedAt, Exchanged, RestsLike, update_reply, Plan, seal, unsealed, history_of, public_entry, public_log, stamp_limit, public_noted, Control, About, Shape, Stand, Began, SeatedPort, plan_of, seen_in, SeatGoes, BeganBy, IsHeld, port_at, IsIdle, StaysAt, opening_of, SeatMakes, MissesSeal, unsealed_answer, RestsUnmarked, CallMade, record_claim, IsGoing, ComesTo, MayBegin, machine_at, UpdateAttempted, ExchangeDue, ExpectsOne, IsEntryOf, IsOwnMachine, NotesNothing, PortStayed, noted_where, word_from, ◌||◌, IfSome, take, length-append, IsPossibleAt, SeatBegins, FoundSealed, Block, claimed_end}, Coming.goes_on, Under.{first_made, next_made, notes_same}, Zeros.seat_fewer}
+use Rattle.partial_long_lived.proofs.{Common.{Opening, ℕ, ◌≡◌, ◌≢◌, ◌+◌, ◌<◌, ◌≤◌, ◌==◌, ◌++◌, Bool, true, false, if◌then◌else◌, Option, None, Some, Ok, List, [], ◌∷◌, length, map, refl, sym, ap, subst, ◌∙◌, inl, inr, arith, option_map_or, nat_lt, is_some, lt-ltb, eqb_tells, length-map, TableId, Applied, Call, Answer, Note, stamp_of, Noted, place_of, Load, Exchange, IsLayout, Layout, pool_end, Change, Reply, Stage, Exchanging, Finished, UpdateBegun, ScanBegun, CoreState, advance_at, answers_lead_on, at_stage, begin_getting, seat_left_at, most_of_update, seat_steps_left, lists_spent, overtaken_reply, reply_of, step_at, step_of, answer_for, call_of, update_call, IsRecord, IsSound, is_sound_at, Part, AreNotesOf, IsNoteOf, IsPlacedAt, Exchanged, RestsLike, update_reply, Plan, seal, unsealed, history_of, public_entry, public_log, stamp_limit, public_noted, Control, About, Shape, Stand, Began, SeatedPort, plan_of, seen_in, SeatGoes, BeganBy, IsHeld, port_at, IsIdle, StaysAt, opening_of, SeatMakes, MissesSeal, unsealed_answer, RestsUnmarked, CallMade, record_claim, IsGoing, ComesTo, MayBegin, machine_at, UpdateAttempted, ExchangeDue, ExpectsOne, IsEntryOf, IsOwnMachine, NotesNothing, PortStayed, noted_where, word_from, ◌||◌, IfSome, take, length-append, IsPossibleAt, SeatBegins, FoundSealed, Block, claimed_end}, Coming.goes_on, Under.{first_made, next_made, notes_same}, Zeros.seat_fewer}
 use Rattle.std.proofs.Math.Bool.{or-false}
 use Rattle.partial_lines.specs.declared.exchange.Exchanged.TheVariants.{Applied as IsApplied, Overtaken}
 
@@ -29,6 +29,7 @@ update_begins table about s core d h idle rests spare inside one =
       sizes = rests.sizes;
       spare = spare;
       kept = rests.kept spare;
+      scan = λ _ is. (let bad : UpdateBegun d ≡ ScanBegun = is in absurd cc);
       unmarked = (rests.pool, rests.slots);
       expects = λ j t v is. by d.expected j t v one is;
     }

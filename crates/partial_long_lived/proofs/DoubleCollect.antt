@@ -101,14 +101,14 @@ settled_on s t u b g = record {
 }
 
 -- how much of the one history a port has seen
-seen_long : (x : SeatedPort) → length (seen_in x.port) ≡ length (history_of x.port.before) + length x.port.part.seen
+pub seen_long : (x : SeatedPort) → length (seen_in x.port) ≡ length (history_of x.port.before) + length x.port.part.seen
 seen_long x =
     length-append (history_of x.port.before) (public_log (length x.port.before) x.port.part.seen)
     ∙ ap (λ n. length (history_of x.port.before) + n) (length-map x.port.part.seen (public_entry (length x.port.before)))
 
 -- The two collects of a scan, at the stands s and u, have found the same words; the port has noted the scan by its last load, which led to t.
 module _ (table : TableId) (about : About) (s u v : Stand) (h : IsHeld table about s) (idle : IsIdle s) (js ws : List ℕ) (inside : AreInside about.sizes js) (some : 0 < length js)
-    (first : AreCollected (port_at s) 0 (length (port_at s).port.part.seen) js ws (length js)) (time : (port_at s).began.length ≤ length (seen_in (port_at s).port)) (g : HasGlanced s u)
+    (first : AreCollected (port_at s) 0 (length (port_at s).port.part.seen) js ws (length js)) (g : HasGlanced s u)
     (kept : StaysAt u v) (same : port_at v ≡ port_at u) where
   abbrev b : ℕ
   b = length (port_at s).port.part.seen
@@ -189,7 +189,7 @@ module _ (table : TableId) (about : About) (s u v : Stand) (h : IsHeld table abo
         one.stamp ∙ sym (stood_then second k low).0
 
     module _ (vs : List ℕ) (second : AreCollected x b (length x.port.part.seen) js ws (length js)) (values : HadValues x js ws vs (length js - 1)) (many : length vs ≡ length js)
-        (last : (j : ℕ) → j < about.sizes.m → HadValue (port_at v) j (slice_index ws (length js - 1)) a) where
+        (last : (j : ℕ) → j < about.sizes.m → HadValue (port_at v) j (slice_index ws (length js - 1)) a) (time : (port_at s).began.length ≤ length (seen_in (port_at s).port)) where
       abbrev vs' : List ℕ
       vs' = slice_set vs (length js - 1) a
 
@@ -288,11 +288,11 @@ module _ (s u t : Stand) (come : HasCome s u) (notes : (port_at u).notes ≡ (po
     why = w.why;
   }
 
-  -- what a scan that is announced has ended with
-  pub come_ok : (r : Result Scanned Refused) (which values ws : List ℕ) → IfOk r (λ q. ScannedNamed u t which values q.collects q.borrowed ws) →
+  -- what a further scan has ended with
+  pub come_ok : (r : Result Scanned Refused) (which values : List ℕ) → IfOk r (λ q. HasNotedScan u t which values q.collects q.borrowed) →
       IfOk r (λ q. HasNotedScan s t which values q.collects q.borrowed)
-  come_ok (Ok q) which values ws w = come_scanned which values q.collects q.borrowed w.scanned
-  come_ok (Err cause) which values ws w = w
+  come_ok (Ok q) which values w = come_scanned which values q.collects q.borrowed w
+  come_ok (Err cause) which values w = w
 
   pub come_err : (r : Result Scanned Refused) → IfErr r (NotScanned u t) → IfErr r (NotScanned s t)
   come_err (Ok q) w = w

@@ -41,6 +41,7 @@ pub mod RecordStamps
 pub mod Resting
 pub mod Rounds
 pub mod Scans
+pub mod ScanByChange
 pub mod Seen
 pub mod Sets
 pub mod Sights

@@ -25,6 +25,13 @@ begun_place b g later before log w is young = elim (eqb_tells (length before) g.
       omega (arith, was, long, both, over)
 ]
 
+-- an epoch younger than the call began when there was all of the history that the call began with
+pub begun_before : (b : Beside) (g : Began) (later before : List (List Applied)) (log : List Applied) → BeganInTime b g → b.log ∷ b.before ≡ later ++ log ∷ before → g.epoch < length before →
+    g.length ≤ length (history_of before)
+begun_before b g later [] log w is young = absurd (omega (arith, young))
+begun_before b g later (l ∷ before) log w is young =
+    begun_place b g (later ++ log ∷ []) before l w (is ∙ sym (append_assoc later (log ∷ []) (l ∷ before))) (omega (arith, young))
+
 -- a scan of some positions may make two collects
 two_collects : (js : List ℕ) → 0 < length js → AreCollects (length js) 2 None
 two_collects [] some = absurd (omega (arith, some))
@@ -303,7 +310,7 @@ module _ (a : About) (words : List ℕ) (ports : ℕ → Port) (notes : ℕ → 
           let histories = epochs_are_histories e words ports b k w.epochs below stands standing in
           moved_to i g s.began (scan ∷ []) (sees_note m few_seen may.behind scan scan_true) (legal_note m may.behind scan scan_true) f
           (λ c same before. final_grows a p' b c (not_grown p' b c same before) f (final_seen f s.found)) u (omega arith) refl (NotesScan js m i X (slice_index words i))
-          (record { recalls = recalled i; log = log; begins = seen_rest; is = refl; history = histories.0; values = histories.1; stamps = λ j inside. ap (λ (l : List Applied). public_of e (ports k).before j (stamp_of o l j)) taken_seen ∙ stamp_public e w.epochs.plan (ports k).before log above m j inside })
+          (record { recalls = recalled i; log = log; begins = seen_rest; is = refl; history = histories.0; values = histories.1; stamps = λ j inside. ap (λ (l : List Applied). public_of e (ports k).before j (stamp_of o l j)) taken_seen ∙ stamp_public e w.epochs.plan (ports k).before log above m j inside; young = λ fresh. begun_before b g where_is.0 (ports k).before log s.began where_is.1 (let epoch = (w.noted.reached k below).epoch in omega (arith, fresh, epoch)) })
 
     -- what a load of the component's word leads to
     module _ (j : ℕ) (inside : j < a.sizes.m) (first : Bool) (wish : Wish) (finds : IsFinding wish → j < (ports k).passed) where

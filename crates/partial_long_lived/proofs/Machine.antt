@@ -336,7 +336,7 @@ made_or_met a words ports notes b reckoned w time k below g f u s known slots c 
     let e : Plan = plan_of a in
     let words' : List ℕ = words_after words (based_step e (ports k).control.here.arena step) in
     let may_move : MayMove e words ports b notes k (move.Makes c step true) =
-    (may.stands, may.machine, may.due, may.claim, λ lead. may_note_all a words ports notes b reckoned w time k below g f u s known slots true c step may lead) in
+    (may.stands, may.machine, may.due, may.claim, may.scan, λ lead. may_note_all a words ports notes b reckoned w time k below g f u s known slots true c step may lead) in
     let l = every_step_stays_lawful e words ports b notes k (move.Makes c step true) w below may_move in
     elim l.becomes [
       | inl met ↦ inl (met.0, met.1)

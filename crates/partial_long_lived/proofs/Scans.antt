@@ -11,8 +11,8 @@ use Rattle.partial_long_lived.specs.Inner.Scans.{ScanBegun}
 
 -- a machine without marks may begin a scan of some components
 pub scan_begins : (table : TableId) (about : About) (s : Stand) (core : CoreState) (which : List ℕ) → IsHeld table about s → IsIdle s → RestsUnmarked (port_at s) core → (port_at s).port.over ≡ false →
-    AreComponentIndices core.sizes which → 0 < length which → MayBegin (scan_asked core which) (port_at s)
-scan_begins table about s core which h idle rests spare asked some =
+    AreComponentIndices core.sizes which → 0 < length which → about.announces ≡ true → MayBegin (scan_asked core which) (port_at s)
+scan_begins table about s core which h idle rests spare asked some announces =
     let between = rests.between in
     let like = between.like in
     let old = between.sound in
@@ -34,6 +34,7 @@ scan_begins table about s core which h idle rests spare asked some =
       sizes = rests.sizes;
       spare = spare;
       kept = rests.kept spare;
+      scan = λ no _. (let bad : true ≡ false = sym announces ∙ ap (λ (a : About). a.announces) (sym h.own) ∙ no in absurd cc);
       unmarked = (rests.pool, rests.slots);
       expects = λ j t v is. (let bad : Some (Call.Scan which) ≡ Some (Call.UpdateIf j t v) = is in cc);
     }

@@ -209,6 +209,7 @@ first_may b x begins s due = record {
   machine = inl begins.begun;
   due = due;
   claim = may_claim x.about b s x.port.over begins.sound begins.sizes due (λ _. begins.spare);
+  scan = begins.scan;
   shown = inl begins.begun.begun;
   expects = begins.expects;
 }
@@ -286,6 +287,7 @@ module _ (b : CoreState) (x : SeatedPort) (begins : MayBegin b x) (c : CoreState
     machine = inr had.made.machine;
     due = due;
     claim = may_claim y.about c s y.port.over had.made.sound sizes_same due had.spare;
+    scan = λ _ is. (let bad : true ≡ false = sym (ap is_begun is) ∙ had.made.machine.going in absurd cc);
     shown = inr (let shown = had.shown in let same = ap (seen_by 0) notes_same in omega (arith, shown, same));
     expects = λ j t v is.
         let of_b : call_of (begun_with b x.port.part) ≡ Some (Call.UpdateIf j t v) =

@@ -1,5 +1,5 @@
 -- How many steps a call makes at most, by what its memory was opened with.
-use Rattle.std.specs.Prelude.{ℕ, ◌+◌, ◌*◌}
+use Rattle.std.specs.Prelude.{ℕ, ◌+◌, ◌*◌, ◌/◌, min, if◌then◌else◌}
 use Rattle.partial_words.specs.Layout.{Layout, list_base}
 use Rattle.partial_embedded.specs.Embedded.{most_view_steps}
 use Rattle.partial_machine.specs.Bounds.{most_of_update}
@@ -40,6 +40,24 @@ most_of_change a = seal_steps a + claim_steps a + fill_steps a + 6
 abbrev pub most_of_scan : Layout → ℕ → ℕ
 most_of_scan z r = most_view_steps z r + r + 5
 
+-- a double collect of so many positions: two collects, a look, and the loads of the values
+abbrev pub double_collect_steps : ℕ → ℕ
+double_collect_steps r = 3 * r + 1
+
+-- how many double collects of r positions a scan tries before it changes the epoch, in a memory of m components: they make three loads for
+-- each component, and a change of epoch makes more steps
+abbrev pub tries : ℕ → ℕ → ℕ
+tries m r = min 64 (m / r)
+
+-- a scan of so many positions by a change of epoch: four steps to enter the current epoch, these double collects, four steps again, the
+-- change, and the loads of the values
+abbrev pub most_of_scan_by_change : About → ℕ → ℕ
+most_of_scan_by_change a r = tries a.sizes.m r * double_collect_steps r + 8 + most_of_change a + r
+
+-- a scan of so many positions whose double collect has failed: a change of epoch and an announced scan, or one by a change of epoch
+abbrev pub most_further : About → ℕ → ℕ
+most_further a r = if a.announces then most_of_change a + most_of_scan a.sizes r else most_of_scan_by_change a r
+
 -- one round of an update: an attempt and a change of epoch
 abbrev pub round_steps : About → ℕ
 round_steps a = most_of_update a.sizes + most_of_change a
@@ -48,6 +66,6 @@ round_steps a = most_of_update a.sizes + most_of_change a
 abbrev pub round_if_steps : About → ℕ
 round_if_steps a = 3 + round_steps a
 
--- a scan of so many positions: a double collect, a change of epoch, and an announced scan
+-- a scan of so many positions: a double collect, and what follows where it fails
 abbrev pub most_of_scans : About → ℕ → ℕ
-most_of_scans a r = 3 * r + 1 + most_of_change a + most_of_scan a.sizes r
+most_of_scans a r = double_collect_steps r + most_further a r

@@ -1,5 +1,5 @@
 -- The sizes of a memory for its options, and why there are none.
-use Rattle.std.specs.Prelude.{ℕ, ◌≡◌, ◌+◌, ◌-◌, ◌*◌, ◌/◌, ◌%◌, ◌<◌, ◌≤◌, ◌⊎◌, None, min, max}
+use Rattle.std.specs.Prelude.{ℕ, ◌≡◌, ◌+◌, ◌-◌, ◌*◌, ◌/◌, ◌%◌, ◌<◌, ◌≤◌, ◌⊎◌, None, Bool, nat_le, min, max, if◌then◌else◌}
 use Rattle.std.specs.Option.{option_map_or}
 use Rattle.partial_words.specs.Layout.{Layout, first_free, most_ahead, most_ports}
 use Rattle.partial_words.specs.Record.{full_record_size, plain_record_size}
@@ -10,7 +10,15 @@ use Rattle.partial_long_lived.specs.declared.shape.Shape.{Shape}
 
 -- the usual options
 abbrev pub IsUsual : Options → Type 0
-IsUsual o = (o.lists ≡ 1024) × (o.pool ≡ None)
+IsUsual o = (o.lists ≡ 1024) × (o.pool ≡ None) × (o.announce ≡ None)
+
+-- the most components times ports of a memory whose scans announce themselves where the options leave that open
+abbrev pub most_helped : ℕ
+most_helped = 65536
+
+-- whether scans announce themselves, so that updates help them
+abbrev pub announces_for : ℕ → ℕ → Options → Bool
+announces_for count ports o = option_map_or (λ announces. announces) o.announce (nat_le (ports * count) most_helped)
 
 -- the most list words
 abbrev pub most_lists : ℕ
@@ -36,30 +44,36 @@ fewest_pool = 8192
 abbrev pub pool_of_all : ℕ
 pool_of_all = 131072
 
--- how many pool words an arena has for each component then, at least, where it has room for them
+-- how many pool words an arena has for each component then, at least, where half the arenas have no more than the most together
 abbrev pub pool_of_component : ℕ
 pool_of_component = 16
 
--- how many pool words beside those are room for the greatest claim of each port
-abbrev pub claim_room : ℕ → ℕ → ℕ
-claim_room count ports = (full_record_size count + most_ahead) * ports
+-- that many
+abbrev pub pool_of_components : ℕ
+pool_of_components = 33554432
+
+-- how many pool words beside those are room for the greatest claim of each port: where no scan announces itself no record has a view
+abbrev pub claim_room : Bool → ℕ → ℕ → ℕ
+claim_room announces count ports = ((if announces then full_record_size count else plain_record_size) + most_ahead) * ports
 
 -- how many pool words are claimed in an epoch then
-abbrev pub usual_pool : ℕ → ℕ → ℕ
-usual_pool count ports = max (min (max (min (pool_of_port * ports) (pool_of_all / ports)) (pool_of_component * count))
-    (most_pool - (plain_record_size * count + claim_room count ports))) fewest_pool
+abbrev pub usual_pool : Bool → ℕ → ℕ → ℕ
+usual_pool announces count ports =
+    max (min (max (min (pool_of_port * ports) (pool_of_all / ports)) (min (pool_of_component * count) (pool_of_components / ports)))
+    (most_pool - (plain_record_size * count + claim_room announces count ports))) fewest_pool
 
 -- how many pool words are claimed in an epoch
 abbrev pub claimed_pool : ℕ → ℕ → Options → ℕ
-claimed_pool count ports o = option_map_or (λ words. words) o.pool (usual_pool count ports)
+claimed_pool count ports o = option_map_or (λ words. words) o.pool (usual_pool (announces_for count ports o) count ports)
 
 -- how many words the pool has after the initial records: those that are claimed, and room for the greatest claim of each port
 abbrev pub pool_words_after : ℕ → ℕ → Options → ℕ
-pool_words_after count ports o = claimed_pool count ports o + claim_room count ports
+pool_words_after count ports o = claimed_pool count ports o + claim_room (announces_for count ports o) count ports
 
--- the fewest slots that an arena has: one for each 8 pool words that are claimed in an epoch, and one for each port
+-- the fewest slots that an arena has: one for each port, and where scans announce themselves one for each 8 pool words that are claimed in
+-- an epoch
 abbrev pub least_slots : ℕ → ℕ → Options → ℕ
-least_slots count ports o = claimed_pool count ports o / 8 + ports
+least_slots count ports o = (if announces_for count ports o then claimed_pool count ports o / 8 else 0) + ports
 
 -- how many words the pool has
 abbrev pub pool_words : ℕ → ℕ → Options → ℕ
@@ -84,6 +98,7 @@ pub record IsShapeFor (count n : ℕ) (o : Options) (s : Shape) : Type 0 where
   pub ports : s.ports ≡ n
   pub arenas : s.arenas ≡ 2 * n
   pub limit : s.limit ≡ first_free s.sizes + claimed_pool count n o
+  pub announces : s.announces ≡ announces_for count n o
 
 -- the number of ports is in its range
 abbrev pub ArePorts : ℕ → Type 0

@@ -59,7 +59,7 @@ pub record SeatedPort : Type 0 where
 
 -- the sizes and the opening of a memory, as the law of epochs has them
 abbrev pub plan_of : About → Plan
-plan_of a = record { sizes = a.sizes; ports = a.ports; arenas = a.arenas; opening = a.opening; limit = a.limit }
+plan_of a = record { sizes = a.sizes; ports = a.ports; arenas = a.arenas; opening = a.opening; limit = a.limit; announces = a.announces }
 
 -- how many of these seats are of that port
 abbrev pub seats_of : ℕ → List SeatedPort → ℕ
@@ -167,6 +167,7 @@ nobody = newcomer (record {
   ports = 0;
   arenas = 0;
   limit = 0;
+  announces = true;
 }) 0
 
 -- the first seat of a view

@@ -12,7 +12,7 @@ bare = record { values = []; first = 0 }
 
 -- the plan of that shape, with an opening
 abbrev pub shape_plan : Shape → Opening → Plan
-shape_plan s o = record { sizes = s.sizes; ports = s.ports; arenas = s.arenas; opening = o; limit = s.limit }
+shape_plan s o = record { sizes = s.sizes; ports = s.ports; arenas = s.arenas; opening = o; limit = s.limit; announces = s.announces }
 
 -- the memory has that shape
 abbrev pub IsShapeOf : Shape → About → Type 0

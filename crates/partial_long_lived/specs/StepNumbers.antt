@@ -1,7 +1,7 @@
 -- How many steps calls make at most, in numbers, in memories of two sizes.
 use Rattle.std.specs.Prelude.{ℕ, ◌≡◌, ◌+◌, ◌*◌}
 use Rattle.partial_long_lived.specs.Bounds.{most_of_change, most_of_scans, round_if_steps, round_steps}
-use Rattle.partial_long_lived.specs.Options.{IsUsual, layout_for}
+use Rattle.partial_long_lived.specs.Options.{IsUsual, announces_for, layout_for}
 use Rattle.partial_long_lived.specs.declared.options.Options.{Options}
 use Rattle.partial_long_lived.specs.declared.rule.About.{About}
 
@@ -10,6 +10,7 @@ pub record IsOpenedWith (count n : ℕ) (o : Options) (a : About) : Type 0 where
   pub sizes : a.sizes ≡ layout_for count n o
   pub ports : a.ports ≡ n
   pub arenas : a.arenas ≡ 2 * n
+  pub announces : a.announces ≡ announces_for count n o
 
 -- how many steps a change of epoch makes at most, an update, a conditional update, and a scan of all components; and how many a scan of r
 -- positions makes besides r (r + 6)

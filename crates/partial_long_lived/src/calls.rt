@@ -14,7 +14,7 @@ use crate::long_lived::LongLived;
 use crate::meet::{meet, take_out};
 use crate::port::Port;
 use crate::read::{read_here, read_late};
-use crate::scan::{public_borrowed, scan_announced};
+use crate::scan::{public_borrowed, scan_further};
 use crate::stamped::scan_stamped;
 use crate::unchanged::unchanged;
 use crate::update::update;
@@ -115,9 +115,11 @@ impl LongLived {
     /// moment of the call. A scan of no position makes no step.
     ///
     /// It first tries a double collect, which stores nothing: two collects at most. When they differ, or the port stands
-    /// in an epoch that has ended, the scan is announced; a port that is spent in its epoch changes the epoch before. An
-    /// announced scan makes at most as many collects as there are positions, and two more. `collects` counts those of
-    /// the way that gave the values, so that all in all there are at most two more.
+    /// in an epoch that has ended, the scan goes on. In a memory whose scans announce themselves (`announce` of its
+    /// options) it is announced; a port that is spent in its epoch changes the epoch before. An announced scan makes at
+    /// most as many collects as there are positions, and two more. In any other memory it enters the current epoch, makes
+    /// double collects again, at most 64, and then changes the epoch: the values are those with which the next epoch
+    /// begins, and count as two collects. `collects` counts those of the way that gave the values.
     ///
     /// # Errors
     /// [`Refused::Component`] exactly when an index isn't below the number of components: no step was made.
@@ -152,8 +154,8 @@ impl LongLived {
                 borrowed: None,
             });
         }
-        let announced = scan_announced(words, stand, core, spent, which, into);
-        match announced {
+        let further = scan_further(words, stand, core, spent, which, kept, into);
+        match further {
             Ok(Scanned { collects, borrowed }) => Ok(Scanned {
                 collects,
                 borrowed: public_borrowed(me.stand.epoch, borrowed),

@@ -49,6 +49,7 @@ pub fn double_collect(
     ensures scanned { result ≡ true → ScannedNamed stand.old stand.new which.now into.new 2 None kept.new }
     ensures notes { result ≡ false → (port_at stand.new).notes ≡ (port_at stand.old).notes }
     ensures unchanged { result ≡ false → into.new ≡ into.old }
+    ensures room { length kept.new ≡ length kept.old }
     ensures steps { stand.new.seat.steps ≤ stand.old.seat.steps + (3 * length which.now + 1) }
 {
     let base = stand.base;
@@ -164,6 +165,7 @@ fn collect(words: &Words, stand: &mut Stand, base: u64, which: &[u32], kept: &mu
     ensures glanced { HasGlanced stand.old stand.new }
     ensures collected { AreCollected (port_at stand.new) 0 (length (port_at stand.new).port.part.seen)
         which.now kept.new (length which.now) }
+    ensures room { length kept.new ≡ length kept.old }
     ensures steps { stand.new.seat.steps ≤ stand.old.seat.steps + (length which.now - 1) }
 {
     let mut k = 1;
@@ -302,9 +304,9 @@ fn collects_some_again(
     true
 }
 
-// Loads the values of the records that the kept words name, of all positions but the last one.
+/// Loads the values of the records that the kept words name, of all positions but the last one.
 #[inline(always)]
-fn load_values(
+pub fn load_values(
     words: &Words,
     stand: &mut Stand,
     base: u64,
@@ -388,9 +390,9 @@ fn load_kept(words: &Words, stand: &mut Stand, base: u64, word: u64) -> u64
     recall(words, stand, at)
 }
 
-// The same, and by this load the port notes the scan `G`.
+/// Loads the value of the record that this component word names, and by this load the port notes the scan `G`.
 #[inline(always)]
-fn load_noting<G: Together>(words: &Words, stand: &mut Stand, base: u64, word: u64) -> u64
+pub fn load_noting<G: Together>(words: &Words, stand: &mut Stand, base: u64, word: u64) -> u64
     requires held { IsHeld words.now.table_id words.now.key stand.old }
     requires base { base ≡ stand.old.base }
     requires stands { (port_at stand.old).port.control.entering ≡ Stands }

@@ -31,6 +31,7 @@ mod port;
 mod read;
 mod rule;
 mod scan;
+mod scan_by_change;
 mod seal;
 mod shape;
 mod stamped;

@@ -4,7 +4,7 @@ ghost use Rattle.std.specs.Prelude.{◌≡◌, ◌+◌, ◌*◌, ◌∷◌, leng
 ghost use Rattle.std.specs.List.{AllByRecursion};
 ghost use Rattle.partial_words.specs.Layout.{first_free, pool_base};
 ghost use Rattle.partial_long_lived.specs.Rule.{newcomers};
-ghost use Rattle.partial_long_lived.specs.Options.{MayNotOpen, MayOpen, claimed_pool, layout_for};
+ghost use Rattle.partial_long_lived.specs.Options.{MayNotOpen, MayOpen, announces_for, claimed_pool, layout_for};
 ghost use Rattle.partial_long_lived.specs.Ports.{IsOf, new_ports};
 ghost use Rattle.partial_long_lived.specs.Closing.{Closes, ClosesLawfully};
 ghost use Rattle.partial_long_lived.specs.Shape.{IsShapeOf};
@@ -94,6 +94,7 @@ fn lay_out(alloc: Global, shape: &Shape, initial: &[u64]) -> Result<(Words, Port
         ports: shape.ports,
         arenas: shape.arenas,
         limit: shape.limit,
+        announces: shape.announces,
     };
     Table::of_words(alloc, &words, &about)
 }
@@ -156,6 +157,7 @@ impl LongLived {
         ensures limit { IfOk result (λ r. r.0.about.limit ≡ first_free r.0.about.sizes +
             claimed_pool (length initial.now) ports options) }
         ensures about { IfOk result (λ r. (r.0.about.ports ≡ ports) × (r.0.about.arenas ≡ 2 * ports)) }
+        ensures announces { IfOk result (λ r. r.0.about.announces ≡ announces_for (length initial.now) ports options) }
         ensures values { IfOk result (λ r. r.0.about.opening.values ≡ initial.now) }
         ensures first { IfOk result (λ r. r.0.about.opening.first ≡ pool_base r.0.about.sizes) }
         ensures ports { IfOk result (λ r. r.1.items ≡ new_ports r.0.table (newcomers r.0.about 0 ports)) }

@@ -9,17 +9,17 @@ use thiserror::Error;
 #[derive(Clone, Copy, Debug, PartialEq, Eq, Error)]
 pub enum OpenError {
     /// There are not 1 to 255 ports.
-    #[error("ports out of range")]
+    #[error("ports out of range: 1 to 255, with any number of components")]
     Ports,
     /// There are not 1 to 65,536 initial values.
-    #[error("components out of range")]
+    #[error("components out of range: 1 to 65536, with any number of ports")]
     Components,
     /// There are more than 65,536 list words.
-    #[error("list words out of range")]
+    #[error("list words out of range: at most 65536")]
     Lists,
     /// An arena would have more than 4,194,304 pool words: the initial records, those of the options, and room for the
     /// greatest record of each port.
-    #[error("pool words out of range")]
+    #[error("pool words out of range: fewer leave room for these components and ports")]
     Pool,
     /// An allocation was refused.
     #[error("out of memory")]

@@ -2,7 +2,7 @@
 
 ghost use Rattle.std.specs.Prelude.{◌≡◌, ◌≤◌, IfOk, IfErr};
 ghost use Rattle.partial_words.specs.Layout.{most_ports};
-ghost use Rattle.partial_long_lived.specs.Options.{IsShapeFor, IsShapeError, MayOpen, claim_room, claimed_pool};
+ghost use Rattle.partial_long_lived.specs.Options.{IsShapeFor, IsShapeError, MayOpen, announces_for, claim_room, claimed_pool};
 
 use crate::open_error::OpenError;
 use crate::shape::Shape;
@@ -24,23 +24,38 @@ const FEWEST_POOL: u64 = 8_192;
 /// ports.
 const POOL_OF_ALL: u64 = 131_072;
 
-/// How many pool words an arena has for each component then, at least, where it has room for them.
+/// How many pool words an arena has for each component then, at least.
 const POOL_OF_COMPONENT: u64 = 16;
+
+/// How many pool words half the arenas have together for their components, at most.
+const POOL_OF_COMPONENTS: u64 = 33_554_432;
+
+/// The most components times ports of a memory whose scans announce themselves where the options leave that open.
+const MOST_HELPED: u64 = 65_536;
 
 /// How much an arena holds. A greater pool makes changes of epoch rarer, and takes more memory: there are two arenas
 /// for each port.
 #[derive(Clone, Copy, Debug, PartialEq, Eq)]
 pub struct Options {
-    /// How many list words an arena has: at most 65,536. Scans use them to list the slots that are no longer in use.
+    /// How many list words an arena has: at most 65,536. Scans that announce themselves use them to list the slots that
+    /// are no longer in use.
     pub lists: u32,
     /// How many pool words of an arena are claimed before its ports change the epoch. An update takes 3 of them, or
-    /// 4 and 2 more for each component of a view that it stores; a scan claims 1, and 1 more for each position. A port
-    /// claims the words of up to 31 records at once, and keeps them for later updates. The pool has, beside these, the
-    /// initial records and room for the greatest claim of each port.
+    /// 4 and 2 more for each component of a view that it stores; a scan that announces itself claims 1, and 1 more for
+    /// each position. A port claims the words of up to 31 records at once, and keeps them for later updates. The pool has,
+    /// beside these, the initial records and room for the greatest claim of each port.
     ///
-    /// `None` is 16,384 for each port, but no more than 131,072 divided by the number of ports, or 16 for each component
-    /// if that is more; no more than an arena has room for, and always 8,192 at least.
+    /// `None` is 16,384 for each port, but no more than 131,072 divided by the number of ports; or 16 for each component,
+    /// but no more than 33,554,432 divided by the number of ports, if that is more; no more than an arena has room for, and
+    /// always 8,192 at least.
     pub pool: Option<u32>,
+    /// Whether a scan whose double collect fails announces itself, so that updates help it. If not, it makes double
+    /// collects again, at most 64, and then changes the epoch, and has the values with which the next epoch begins. Then an
+    /// arena needs no room for views, and no slots but one for each port; but such a scan may take as long as a change of
+    /// epoch.
+    ///
+    /// `None` is yes where the number of ports times that of components is 65,536 at most.
+    pub announce: Option<bool>,
 }
 
 impl Default for Options {
@@ -53,6 +68,7 @@ impl Default for Options {
         Options {
             lists: 1_024,
             pool: None,
+            announce: None,
         }
     }
 }
@@ -78,14 +94,15 @@ pub fn shape(count: usize, ports: u32, options: Options) -> Result<Shape, OpenEr
         return Err(OpenError::Lists);
     }
     let m = count as u32;
-    let room = claim_room(u64::from(m), u64::from(ports));
+    let announces = announces_for(options, u64::from(m), u64::from(ports));
+    let room = claim_room(announces, u64::from(m), u64::from(ports));
     let claimed = pool_of(options, u64::from(m), u64::from(ports));
     let pool_words = plain_record_size() * u64::from(m) + claimed + room;
     if pool_words > MOST_POOL {
         return Err(OpenError::Pool);
     }
     let pool_words = pool_words as u32;
-    let slots = claimed as u32 / 8 + ports;
+    let slots = if announces { claimed as u32 / 8 } else { 0 } + ports;
     let spare = 15 - (2 * m + 3 + slots + options.lists + pool_words) % 16;
     let slots = MOST_SLOTS.min(slots + spare);
     let Ok(sizes) = Sizes::new(m, slots, options.lists, pool_words) else {
@@ -97,18 +114,36 @@ pub fn shape(count: usize, ports: u32, options: Options) -> Result<Shape, OpenEr
         ports,
         arenas: 2 * ports,
         limit: own + claimed,
+        announces,
         own,
         carried: u64::from(sizes.total()),
     })
 }
 
-// How many pool words of an arena of `m` components are room for the greatest claim of each port.
-fn claim_room(m: u64, ports: u64) -> u64
+// Whether scans of a memory of `m` components announce themselves.
+fn announces_for(options: Options, m: u64, ports: u64) -> bool
     requires components { m ≤ 65536 }
     requires ports { ports ≤ most_ports }
-    ensures { result ≡ claim_room m ports }
+    ensures { result ≡ announces_for m ports options }
 {
-    (full_record_size(m) + MOST_AHEAD) * ports
+    match options.announce {
+        Some(announces) => announces,
+        None => ports * m <= MOST_HELPED,
+    }
+}
+
+// How many pool words of an arena of `m` components are room for the greatest claim of each port.
+fn claim_room(announces: bool, m: u64, ports: u64) -> u64
+    requires components { m ≤ 65536 }
+    requires ports { ports ≤ most_ports }
+    ensures { result ≡ claim_room announces m ports }
+{
+    let record = if announces {
+        full_record_size(m)
+    } else {
+        plain_record_size()
+    };
+    (record + MOST_AHEAD) * ports
 }
 
 // How many pool words of an arena of `m` components are claimed in an epoch.
@@ -120,10 +155,12 @@ fn pool_of(options: Options, m: u64, ports: u64) -> u64
     match options.pool {
         Some(words) => u64::from(words),
         None => {
-            let others = plain_record_size() * m + claim_room(m, ports);
+            let room = claim_room(announces_for(options, m, ports), m, ports);
+            let others = plain_record_size() * m + room;
+            let components = (POOL_OF_COMPONENT * m).min(POOL_OF_COMPONENTS / ports);
             let words = (POOL_OF_PORT * ports)
                 .min(POOL_OF_ALL / ports)
-                .max(POOL_OF_COMPONENT * m);
+                .max(components);
             words.min(MOST_POOL.saturating_sub(others)).max(FEWEST_POOL)
         }
     }

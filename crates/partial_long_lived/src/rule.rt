@@ -18,6 +18,8 @@ pub struct About {
     pub arenas: u32,
     /// Pool limit: a claim that ends past this word of the arena is the port's last in the epoch.
     pub limit: u64,
+    /// Whether scans announce themselves, so that updates help them.
+    pub announces: bool,
 }
 
 /// The ports whose seat it is, mostly one. It is ghost state: no value of it is ever made.

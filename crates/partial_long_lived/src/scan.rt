@@ -13,11 +13,12 @@ ghost use Rattle.partial_lines.specs.Replies.{RestsLike, scan_reply};
 ghost use Rattle.partial_epochs.specs.History.{public_stamp};
 ghost use Rattle.partial_epochs.specs.Layout.{slot_limit};
 ghost use Rattle.partial_long_lived.specs.Rule.{plan_of};
-ghost use Rattle.partial_long_lived.specs.Bounds.{most_of_change, most_of_scan};
+ghost use Rattle.partial_long_lived.specs.Bounds.{most_further, most_of_change, most_of_scan};
 ghost use Rattle.partial_long_lived.specs.Inner.Held.{IsHeld, port_at};
 ghost use Rattle.partial_long_lived.specs.Inner.Calls.{IsIdle};
+ghost use Rattle.partial_long_lived.specs.Inner.DoubleCollect.{AreInside};
 ghost use Rattle.partial_long_lived.specs.Inner.Rests.{NotScanned, RestsAt};
-ghost use Rattle.partial_long_lived.specs.Inner.Scans.{RestsUnmarked, ScanBegun, SettledFirst};
+ghost use Rattle.partial_long_lived.specs.Inner.Scans.{HasNotedScan, RestsUnmarked, ScanBegun, SettledFirst};
 ghost use Rattle.partial_long_lived.specs.Inner.Stamped.{MadeNamed, ScannedNamed};
 ghost use Rattle.partial_long_lived.specs.Inner.Under.{IsGoing, ComesTo, MayBegin, machine_at};
 
@@ -28,6 +29,7 @@ use crate::error::Refused;
 use crate::lines::{ArenaLines, LateScan, Scan};
 use crate::machine_plays::{AddOn, BeginScan, Moment};
 use crate::rule::Words;
+use crate::scan_by_change::scan_by_change;
 use crate::shape::Shape;
 use crate::stand::Stand;
 use partial_core::Core;
@@ -54,6 +56,41 @@ fn settle_first(words: &Words, stand: &mut Stand, core: &mut Core)
     }
 }
 
+/// Makes a scan whose double collect has failed: one that is announced; or one by a change of epoch, in a memory whose scans
+/// don't announce themselves. `kept` is where such a scan keeps words.
+///
+/// # Errors
+/// As those of [`change`]: the port stands where it stood, spent, and `into` is unchanged.
+pub fn scan_further(
+    words: &Words,
+    stand: &mut Stand,
+    core: &mut Core,
+    spent: &mut bool,
+    which: &[u32],
+    kept: &mut [u64],
+    into: &mut [u64],
+) -> Result<Scanned, Refused>
+    requires held { IsHeld words.now.table_id words.now.key stand.old }
+    requires rests { RestsAt stand.old core.old spent.old }
+    requires asked { AreComponentIndices core.old.sizes which.now }
+    requires inside { AreInside words.now.key.sizes which.now }
+    requires some { 0 < length which.now }
+    requires room { length which.now ≤ length kept.old }
+    requires lengths { length into.old ≡ length which.now }
+    ensures held { IsHeld words.now.table_id words.now.key stand.new }
+    ensures rests { RestsAt stand.new core.new spent.new }
+    ensures scanned { IfOk result (λ q. HasNotedScan stand.old stand.new which.now into.new q.collects q.borrowed) }
+    ensures refused { IfErr result (NotScanned stand.old stand.new) }
+    ensures unchanged { IfErr result (λ _. into.new ≡ into.old) }
+    ensures steps { stand.new.seat.steps ≤ stand.old.seat.steps + most_further words.now.key (length which.now) }
+{
+    if stand.shape.announces {
+        scan_announced(words, stand, core, spent, which, into)
+    } else {
+        scan_by_change(words, stand, core, spent, which, kept, into)
+    }
+}
+
 /// Makes a scan that is announced. Unless it took a view, `core` has the words that it collected last. A port that is spent
 /// in its epoch changes the epoch first.
 ///
@@ -69,6 +106,7 @@ pub fn scan_announced(
 ) -> Result<Scanned, Refused>
     requires held { IsHeld words.now.table_id words.now.key stand.old }
     requires rests { RestsAt stand.old core.old spent.old }
+    requires announces { words.now.key.announces ≡ true }
     requires asked { AreComponentIndices core.old.sizes which.now }
     requires some { 0 < length which.now }
     requires lengths { length into.old ≡ length which.now }
@@ -101,6 +139,7 @@ fn scan_spent(
     requires held { IsHeld words.now.table_id words.now.key stand.old }
     requires rests { RestsAt stand.old core.old spent.old }
     requires over { spent.old ≡ true }
+    requires announces { words.now.key.announces ≡ true }
     requires asked { AreComponentIndices core.old.sizes which.now }
     requires some { 0 < length which.now }
     requires lengths { length into.old ≡ length which.now }
@@ -142,6 +181,7 @@ fn scan(
     requires idle { IsIdle stand.old }
     requires rests { RestsUnmarked (port_at stand.old) core.old }
     requires spare { (port_at stand.old).port.over ≡ false }
+    requires announces { words.now.key.announces ≡ true }
     requires asked { AreComponentIndices core.old.sizes which.now }
     requires some { 0 < length which.now }
     requires lengths { length into.old ≡ length which.now }
@@ -170,6 +210,7 @@ fn make_scan<C>(
     requires idle { IsIdle stand.old }
     requires rests { RestsUnmarked (port_at stand.old) core.old }
     requires spare { (port_at stand.old).port.over ≡ false }
+    requires announces { words.now.key.announces ≡ true }
     requires asked { AreComponentIndices core.old.sizes which.now }
     requires some { 0 < length which.now }
     requires lengths { length into.old ≡ length which.now }

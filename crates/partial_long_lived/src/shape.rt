@@ -6,7 +6,7 @@ ghost use Rattle.partial_long_lived.specs.Sized.{HasOffsets, IsSized, ahead_for}
 
 use partial_words::{MOST_AHEAD, Sizes};
 
-/// The sizes of an arena, how many ports and arenas there are, and its pool limit.
+/// The sizes of an arena, how many ports and arenas there are, its pool limit, and how scans are made.
 #[derive(Clone, Copy, Debug)]
 pub struct Shape {
     /// The sizes of an arena.
@@ -17,11 +17,13 @@ pub struct Shape {
     pub arenas: u32,
     /// Pool limit: a claim that ends past this word of the arena is the port's last in the epoch.
     pub limit: u64,
+    /// Whether scans announce themselves, so that updates help them.
+    pub announces: bool,
     /// The word of an arena after the initial records, where those of an epoch's own begin.
     pub own: u64,
     /// The word of an arena where the carried stamps begin.
     pub carried: u64,
-    pub ghost sized: { IsSized sizes ports arenas limit },
+    pub ghost sized: { IsSized sizes ports arenas limit announces },
     pub ghost offsets: { HasOffsets sizes own carried },
 }
 

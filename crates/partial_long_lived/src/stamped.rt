@@ -17,13 +17,14 @@ use crate::double_collect::double_collect;
 use crate::error::Refused;
 use crate::rule::Words;
 use crate::scan::scan_announced;
+use crate::scan_by_change::scan_by_change;
 use crate::stand::Stand;
 use partial_core::Core;
 use partial_lines::Scanned;
 
-/// Makes a whole scan, by a double collect, or otherwise by one that is announced, and loads the public stamps of its
-/// components into `stamps`, unless it took a view: then `stamps` is unchanged. `spent` says whether the port is spent in
-/// its epoch, before and afterwards. Returns how the scan was made. `kept` is where a double collect keeps words.
+/// Makes a whole scan, by a double collect, or otherwise by one that is announced or by a change of epoch, and loads the
+/// public stamps of its components into `stamps`, unless it took a view: then `stamps` is unchanged. `spent` says whether
+/// the port is spent in its epoch, before and afterwards. Returns how the scan was made. `kept` is where a scan keeps words.
 ///
 /// # Errors
 /// As those of [`scan_announced`]: the port stands where it stood, spent, and `into` and `stamps` are unchanged.
@@ -60,10 +61,15 @@ pub fn scan_stamped(
             borrowed: None,
         });
     }
-    let scanned = scan_announced(words, stand, core, spent, which, into)?;
-    if scanned.borrowed.is_none() {
-        load_stamps(words, stand, which, core.last_loaded(), stamps);
+    if stand.shape.announces {
+        let scanned = scan_announced(words, stand, core, spent, which, into)?;
+        if scanned.borrowed.is_none() {
+            load_stamps(words, stand, which, core.last_loaded(), stamps);
+        }
+        return Ok(scanned);
     }
+    let scanned = scan_by_change(words, stand, core, spent, which, kept, into)?;
+    load_stamps(words, stand, which, kept, stamps);
     Ok(scanned)
 }
 

@@ -36,8 +36,8 @@ pub fn unchanged(words: &Words, stand: &mut Stand, which: &[u32], stamps: &[u64]
     true
 }
 
-// Enters the current epoch if the port's epoch has ended, as the first steps of a call.
-fn settle_now(words: &Words, stand: &mut Stand)
+/// Enters the current epoch if the port's epoch has ended, as the first steps of a call.
+pub fn settle_now(words: &Words, stand: &mut Stand)
     requires held { IsHeld words.now.table_id words.now.key stand.old }
     requires idle { IsIdle stand.old }
     ensures held { IsHeld words.now.table_id words.now.key stand.new }

@@ -113,6 +113,7 @@ fn stages_reach_all_items_over_many_epochs(rt: HostRuntime) -> Result<(), Fail> 
             options: Options {
                 lists: 0,
                 pool: Some(0),
+                announce: None,
             },
         };
         let report = run_pipeline(&rt, rt.alloc(), smallest, &work, &mut NoWatch)?;
@@ -162,6 +163,7 @@ fn options_are_refused(rt: HostRuntime) -> Result<(), Fail> {
     pipeline.options = Options {
         lists: 0,
         pool: Some(4_194_275),
+        announce: None,
     };
     assert_eq!(rt;
         ran(&rt, rt.alloc(), pipeline).err(),

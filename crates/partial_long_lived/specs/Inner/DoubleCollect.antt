@@ -75,6 +75,8 @@ pub record NotesScan (js : List ℕ) (b i : ℕ) (x : SeatedPort) (a : ℕ) (y :
   pub stamps : (j : ℕ) → j < x.about.sizes.m →
       public_of (plan_of x.about) x.port.before j (stamp_of (opening_of x) (take b x.port.part.seen) j)
       ≡ stamp_of x.about.opening (take (length (history_of x.port.before) + b) (history_of (log ∷ x.port.before))) j
+  -- an epoch that is younger than the call began when there was all of the history that the call began with
+  pub young : x.began.epoch < x.port.control.here.epoch → x.began.length ≤ length (history_of x.port.before)
 
 -- such a load
 abbrev pub notes_scan : {S : Type 0} → List ℕ → ℕ → ℕ → Me S (List SeatedPort) → ℕ → Me S (List SeatedPort) → Type 0

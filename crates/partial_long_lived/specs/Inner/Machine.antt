@@ -18,7 +18,7 @@ use Rattle.partial_core.specs.Steps.{StepShows, begun_with, since_with}
 use Rattle.partial_epochs.specs.Layout.{IsSealed, Plan, plain, seal, slot_limit, unsealed}
 use Rattle.partial_epochs.specs.History.{history_of}
 use Rattle.partial_epochs.specs.Ports.Entering.{Stands}
-use Rattle.partial_epochs.specs.MachineSteps.{MayClaim}
+use Rattle.partial_epochs.specs.MachineSteps.{MayClaim, MayScan}
 use Rattle.partial_epochs.specs.Notes.{public_noted}
 use Rattle.partial_long_lived.specs.Rule.{Began, SeatedPort, one_of, plan_of}
 use Rattle.partial_long_lived.specs.Inner.Steps.{tells}
@@ -73,6 +73,7 @@ pub record MayMake (x : SeatedPort) (c : CoreState) (s : Step) : Type 0 where
   pub machine : IsMachineOf c x.port.part
   pub due : step_of c ≡ Some s
   pub claim : MayClaim (plan_of x.about) x.port.over s
+  pub scan : MayScan (plan_of x.about) c
   pub shown : IsShown x c
   pub expects : ExpectsSeen x c
 

@@ -20,6 +20,7 @@ opened s values = record {
   ports = s.ports;
   arenas = s.arenas;
   limit = s.limit;
+  announces = s.announces;
 }
 
 -- The table has the words of an opening, and no slots. The seat is the one of all n ports, none of which has made a call.

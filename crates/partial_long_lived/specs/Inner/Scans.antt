@@ -1,5 +1,5 @@
 -- How a call of a port's machine begins, and what a scan leaves of its port.
-use Rattle.std.specs.Prelude.{ℕ, ◌≡◌, ◌≤◌, ◌++◌, false, List, [], ◌∷◌, length, Option, Some}
+use Rattle.std.specs.Prelude.{ℕ, ◌≡◌, ◌<◌, ◌≤◌, ◌++◌, false, List, [], ◌∷◌, length, Option, Some}
 use Rattle.std.specs.Option.{option_map}
 use Rattle.partial_model.specs.declared.call.Call.{Call}
 use Rattle.partial_model.specs.declared.call.Answer.{Answer}
@@ -37,6 +37,12 @@ pub record SettledFirst (s t : Stand) : Type 0 where
   pub notes : (port_at t).notes ≡ (port_at s).notes
   pub first : length (seen_in (port_at s).port) ≤ (port_at t).began.length
   pub fresh : (port_at t).began.epoch ≤ t.epoch
+
+-- By the first steps of a call the port has entered an epoch that opened during the call. It has noted nothing, and has seen nothing there.
+pub record EnteredYoung (s t : Stand) : Type 0 where
+  pub settled : SettledFirst s t
+  pub young : (port_at t).began.epoch < t.epoch
+  pub none : (port_at t).port.part.seen ≡ []
 
 -- The machine b has begun a scan of n positions where the port stands. The claim of its announcement was answered by a.
 pub record ScanBegun (b : CoreState) (n : ℕ) (s : Stand) (a : ℕ) (t : Stand) : Type 0 where

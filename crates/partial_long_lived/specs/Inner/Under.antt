@@ -18,6 +18,7 @@ use Rattle.partial_epochs.specs.History.{history_of}
 use Rattle.partial_epochs.specs.Notes.{public_noted}
 use Rattle.partial_epochs.specs.Ports.Entering.{Stands}
 use Rattle.partial_epochs.specs.Epochs.{awaits_at}
+use Rattle.partial_epochs.specs.MachineSteps.{MayScan}
 use Rattle.partial_long_lived.specs.declared.rule.About.{About}
 use Rattle.partial_long_lived.specs.declared.stand.Stand.{Stand}
 use Rattle.partial_long_lived.specs.Rule.{SeatedPort, plan_of}
@@ -82,6 +83,7 @@ pub record MayBegin (b : CoreState) (x : SeatedPort) : Type 0 where
   pub sizes : b.sizes ≡ x.about.sizes
   pub spare : x.port.over ≡ false
   pub kept : claimed_end b ≤ x.about.limit
+  pub scan : MayScan (plan_of x.about) b
   pub unmarked : (b.pool_spent ≡ false) × (b.slots_spent ≡ false)
   pub expects : ExpectsSeen x b
 

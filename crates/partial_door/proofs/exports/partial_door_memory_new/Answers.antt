@@ -11,3 +11,8 @@ pub returns-in-Ok : goal.returns-in-Ok
 returns-in-Ok c =
     let new = subst (λ (o : Options). HoldsNew c.args.number c.args.initial.now c.args.ports o c.in-Ok.held.value) c.options_for.ensures c.in-Ok.ensures.ok in
     inr (inl (c.in-Ok.held.value, c.in_default.ensures.taken, c.put-in-Ok.ensures, refl, new))
+
+pub returns-in-Err : goal.returns-in-Err
+returns-in-Err c =
+    let cause = subst (λ (o : Options). MayNotBeNew c.args.initial.now c.args.ports o c.in-Err.code) c.options_for.ensures c.in-Err.ensures.err in
+    inr (inr (c.in_default.ensures.taken, c.take.ensures.left, cause))

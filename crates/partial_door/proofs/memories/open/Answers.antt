@@ -11,14 +11,14 @@ returns-in-Ok-clause-ok c =
       x.2,
       x.3,
       still_new _ _ _ _ _ _ _ x.4 x.5
-          (record { sizes = o.sizes; limit = o.limit; many = o.about; values = o.values; first = o.first; held = o.ports }),
+          (record { sizes = o.sizes; limit = o.limit; announces = o.announces; many = o.about; values = o.values; first = o.first; held = o.ports }),
     )) c.with_ports.ensures.ok
 
 pub returns-in-Ok-clause-err : goal.returns-in-Ok-clause-err
 returns-in-Ok-clause-err c =
     let o = c.in-Ok.ensures in
     IfErr-weaker c.with_ports.result _ _
-    (λ code x. inr (_, _, record { sizes = o.sizes; limit = o.limit; many = o.about; values = o.values; first = o.first; held = o.ports }, x)) c.with_ports.ensures.err
+    (λ code x. inr (_, _, record { sizes = o.sizes; limit = o.limit; announces = o.announces; many = o.about; values = o.values; first = o.first; held = o.ports }, x)) c.with_ports.ensures.err
 
 pub returns-in-Err-clause-err : goal.returns-in-Err-clause-err
 returns-in-Err-clause-err c = inl (c.in-Err.fault, search rules, c.in-Err.ensures.refused)

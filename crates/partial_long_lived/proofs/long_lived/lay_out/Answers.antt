@@ -16,7 +16,7 @@ returns-clause-about c =
     let o : Opening = record { values = c.from.result; first = c.from-2.result } in
     let same : o ≡ record { values = c.args.initial.now; first = pool_base c.args.shape.now.sizes } = same_opening o _ values (c.from-2.ensures ∙ c.pool_base.ensures) in
     let s = c.args.shape.now in
-    let with : Opening → About = λ o. record { sizes = s.sizes; opening = o; ports = s.ports; arenas = s.arenas; limit = s.limit } in
+    let with : Opening → About = λ o. record { sizes = s.sizes; opening = o; ports = s.ports; arenas = s.arenas; limit = s.limit; announces = s.announces } in
     IfOk-weaker c.of_words.result _ _ (λ r h. h.5 ∙ ap with same) c.of_words.ensures
 
 pub returns-clause-opened : goal.returns-clause-opened

@@ -25,7 +25,7 @@ returns-clause-scanned g c =
     let r = c.requires in
     let end = c.finish.ensures in
     let leads = leads_on _ _ _ (leads_on _ _ _ c.announce.ensures.leads c.claim_slot-slot.ensures.leads) end.leads in
-    let begins = scan_begins _ _ _ c.args.core.now c.args.which.now r.held r.idle r.rests r.spare r.asked r.some in
+    let begins = scan_begins _ _ _ c.args.core.now c.args.which.now r.held r.idle r.rests r.spare r.asked r.some r.announces in
     scan_named _ _ _ _ _ r.held r.idle c.args.core.now c.args.which.now begins _ c.begin_scan-at.ensures.begun leads _ _ end.replies _ c.finish.new.core.rows end.copied end.asked end.rows r.fresh
 
 pub returns-clause-rests : goal.returns-clause-rests
@@ -33,7 +33,7 @@ returns-clause-rests g c =
     let r = c.requires in
     let end = c.finish.ensures in
     let leads = leads_on _ _ _ (leads_on _ _ _ c.announce.ensures.leads c.claim_slot-slot.ensures.leads) end.leads in
-    let begins = scan_begins _ _ _ c.args.core.now c.args.which.now r.held r.idle r.rests r.spare r.asked r.some in
+    let begins = scan_begins _ _ _ c.args.core.now c.args.which.now r.held r.idle r.rests r.spare r.asked r.some r.announces in
     scan_rests _ _ _ _ _ r.held r.idle c.args.core.now c.args.which.now begins _ c.begin_scan-at.ensures.begun leads _ _ end.replies _ r.rests end.rests
 
 pub returns-clause-steps : goal.returns-clause-steps
@@ -41,7 +41,7 @@ returns-clause-steps g c =
     let r = c.requires in
     let end = c.finish.ensures in
     let leads = leads_on _ _ _ (leads_on _ _ _ c.announce.ensures.leads c.claim_slot-slot.ensures.leads) end.leads in
-    let begins = scan_begins _ _ _ c.args.core.now c.args.which.now r.held r.idle r.rests r.spare r.asked r.some in
+    let begins = scan_begins _ _ _ c.args.core.now c.args.which.now r.held r.idle r.rests r.spare r.asked r.some r.announces in
     scan_steps _ _ _ _ _ r.held r.idle c.args.core.now c.args.which.now begins _ c.begin_scan-at.ensures.begun leads _ _ end.replies c.begin_scan-at.ensures.steps
 
 pub returns-clause-spent : goal.returns-clause-spent

@@ -19,6 +19,9 @@ returns-clause-about c =
     let shape = c.in_ok-shape.ensures.ok in
     (ap (λ (a : About). a.ports) is ∙ shape.ports, ap (λ (a : About). a.arenas) is ∙ shape.arenas)
 
+pub returns-clause-announces : goal.returns-clause-announces
+returns-clause-announces c = ap (λ (a : About). a.announces) c.in_ok-table.ensures.about ∙ c.in_ok-shape.ensures.ok.announces
+
 pub returns-clause-values : goal.returns-clause-values
 returns-clause-values c = ap (λ (a : About). a.opening.values) c.in_ok-table.ensures.about
 

@@ -21,7 +21,7 @@ returns-then-scan_at_once-clause-answered c =
 pub public_borrowed-requires : goal.public_borrowed-requires
 public_borrowed-requires c =
     let d = c.scan_at_once.ensures in
-    let told = come_ok _ _ _ d.stayed.come (d.notes c.if-scan_at_once.false) _ _ _ _ c.scan_announced-announced.ensures.scanned in
+    let told = come_ok _ _ _ d.stayed.come (d.notes c.if-scan_at_once.false) _ _ _ c.scan_further-further.ensures.scanned in
     record { fits = borrowed_fits _ _ _ _ _ _ (rw c.in-Ok.is at told) }
 
 pub returns-clause-answered : goal.returns-clause-answered
@@ -31,16 +31,16 @@ returns-clause-answered c =
     let below = subst (λ n. AllByRecursion (λ j. j < n) c.args.which.now) same (are_below _ c.args.which.now _ c.all_below.ensures c.if-not-all_below.false) in
     let some : 0 < length c.args.which.now = search rules fits 5000 in
     let d = c.scan_at_once.ensures in
-    let new = c.scan_announced-announced.new.stand in
-    let held = c.scan_announced-announced.ensures.held in
-    let told = come_ok _ _ _ d.stayed.come (d.notes c.if-scan_at_once.false) _ _ _ _ c.scan_announced-announced.ensures.scanned in
-    elim c.match-announced.branch [
+    let new = c.scan_further-further.new.stand in
+    let held = c.scan_further-further.ensures.held in
+    let told = come_ok _ _ _ d.stayed.come (d.notes c.if-scan_at_once.false) _ _ _ c.scan_further-further.ensures.scanned in
+    elim c.match-further.branch [
       | in-Ok w ↦
           let scanned = rw w.in-Ok.is at told in
-          subst (λ r. IfOk r (λ q. Scans c.args.me.now c.args.which.now c.scan_announced-announced.new.into q (port_view new.seat.table_id new.seat.steps (port_at new)))) (sym w.result-is)
+          subst (λ r. IfOk r (λ q. Scans c.args.me.now c.args.which.now c.scan_further-further.new.into q (port_view new.seat.table_id new.seat.steps (port_at new)))) (sym w.result-is)
           (scan_answered _ c.me.inside.stand new _ c.me.view_is own held c.args.which.now below
-          c.scan_announced-announced.new.into _ _ _ scanned w.public_borrowed.ensures some)
-      | in-Err w ↦ subst (λ r. IfOk r (λ q. Scans c.args.me.now c.args.which.now c.scan_announced-announced.new.into q (port_view new.seat.table_id new.seat.steps (port_at new)))) (sym w.result-is) tt
+          c.scan_further-further.new.into _ _ _ scanned w.public_borrowed.ensures some)
+      | in-Err w ↦ subst (λ r. IfOk r (λ q. Scans c.args.me.now c.args.which.now c.scan_further-further.new.into q (port_view new.seat.table_id new.seat.steps (port_at new)))) (sym w.result-is) tt
     ]
 
 pub returns-clause-refused : goal.returns-clause-refused
@@ -49,10 +49,10 @@ returns-clause-refused c =
     let same : c.m.result ≡ c.self.inside.table.key.sizes.m = search rules in
     let below = subst (λ n. AllByRecursion (λ j. j < n) c.args.which.now) same (are_below _ c.args.which.now _ c.all_below.ensures c.if-not-all_below.false) in
     let d = c.scan_at_once.ensures in
-    let new = c.scan_announced-announced.new.stand in
-    let held = c.scan_announced-announced.ensures.held in
-    let told = come_err _ _ _ d.stayed.come (d.notes c.if-scan_at_once.false) _ c.scan_announced-announced.ensures.refused in
-    elim c.match-announced.branch [
+    let new = c.scan_further-further.new.stand in
+    let held = c.scan_further-further.ensures.held in
+    let told = come_err _ _ _ d.stayed.come (d.notes c.if-scan_at_once.false) _ c.scan_further-further.ensures.refused in
+    elim c.match-further.branch [
       | in-Ok w ↦ subst (λ r. IfErr r (λ cause. IsRefused c.args.me.now (Call.Scan c.args.which.now) cause (port_view new.seat.table_id new.seat.steps (port_at new)))) (sym w.result-is) tt
       | in-Err w ↦
           let not = rw w.in-Err.is at told in
@@ -60,8 +60,8 @@ returns-clause-refused c =
           (scan_refused _ c.me.inside.stand new _ c.me.view_is own held c.args.which.now below _ not)
     ]
 
-pub scan_announced-announced-requires-clause-rests : goal.scan_announced-announced-requires-clause-rests
-scan_announced-announced-requires-clause-rests c = search (tests, rules)
+pub scan_further-further-requires-clause-rests : goal.scan_further-further-requires-clause-rests
+scan_further-further-requires-clause-rests c = search (tests, rules)
 
 pub returns-then-scan_at_once-clause-steps : goal.returns-then-scan_at_once-clause-steps
 returns-then-scan_at_once-clause-steps c =
@@ -72,6 +72,6 @@ returns-then-scan_at_once-clause-steps c =
 pub returns-clause-steps : goal.returns-clause-steps
 returns-clause-steps c =
     let few = c.scan_at_once.ensures.steps in
-    let later = c.scan_announced-announced.ensures.steps in
-    let all : c.scan_announced-announced.new.stand.seat.steps ≤ c.me.inside.stand.seat.steps + most_of_scans c.self.inside.table.key (length c.args.which.now) = omega (arith, few, later) in
-    few_about (λ (a : About). most_of_scans a (length c.args.which.now)) c.me.inside.stand c.scan_announced-announced.new.stand _ _ _ c.me.view_is c.self.view_is all
+    let later = c.scan_further-further.ensures.steps in
+    let all : c.scan_further-further.new.stand.seat.steps ≤ c.me.inside.stand.seat.steps + most_of_scans c.self.inside.table.key (length c.args.which.now) = omega (arith, few, later) in
+    few_about (λ (a : About). most_of_scans a (length c.args.which.now)) c.me.inside.stand c.scan_further-further.new.stand _ _ _ c.me.view_is c.self.view_is all
