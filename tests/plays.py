@@ -25,7 +25,8 @@ KNOWN = {
     ('partial_long_lived', 'machine_plays.rt'):
         'LoadOn StoreOn LoadZero ExchangeOn AddOn BeginFirst BeginAgain BeginScan ExchangeComponent',
     ('partial_long_lived', 'change_plays.rt'):
-        'Pass Seal BeginSearch BeginPass Take Give LoadPort Put FindClear SetWord SetLists SetValue Find Publish',
+        'Pass Seal BeginSearch BeginPass Take Give LoadPort Put FindClear SetWord SetLists SetValue FindSetWord FindSetValue '
+        'Find Publish',
 }
 # By crate and file, which calls of a table that count nothing stand there.
 UNCOUNTED = {}

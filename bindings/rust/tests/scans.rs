@@ -84,7 +84,7 @@ fn scans_that_nobody_disturbs_change_no_epoch() {
     let memory = Memory::builder().ports(5).pool_words(1).open(&[0; COMPONENTS]).expect("a memory is made");
     let mut ports: [Port; 3] = std::array::from_fn(|_| memory.port().expect("a port is free"));
     for value in 1..=3 {
-        set(&mut ports[0], 0, value);
+        let _ = set(&mut ports[0], 0, value);
     }
     // The epoch of the other ports has ended. A scan by one of them enters the current epoch, and ends it for nobody else.
     for turn in 0..6 {

@@ -180,7 +180,7 @@ fn claims(
     let ahead = (words / 8 / u64::from(ports)).min(93);
     assert_eq!(rt;
         updates_of_first_epoch(rt, &memory, &mut port),
-        words / (3 + ahead) * (1 + ahead / 3) + 1
+        (words / (3 + ahead) * (1 + ahead / 3)).saturating_add(1)
     );
     drop((memory, port));
     Ok(())

@@ -1,5 +1,5 @@
 -- The steps of a change of epoch, as its code asks for them.
-use Rattle.partial_long_lived.proofs.{Common.{ℕ, ◌≡◌, ◌≢◌, ◌+◌, ◌-◌, ◌*◌, ◌%◌, ◌^◌, ◌<◌, ◌≤◌, ◌==◌, Bool, if◌then◌else◌, Option, Some, IfSome, List, [], sym, ap, subst, ◌∙◌, inl, inr, arith, lt-ltb, either, Me, Allows, TableId, first_free, list_base, opening_word, Site, Plan, arena_limit, at_word, base, entering_bit, entering_from, own_word, packed, seal, set_word, OwnedArena, Port, Stands, next_site, passing_port, below_whole, set_index, About, Stand, IsRuleKept, SeatedPort, one_of, plan_of, bare, shape_plan, SeatGoes, IsOne, tells, IsHeld, port_at, SeatGives, LoadsPort, PassesSealed, SeatPublishes, PutsPort, Seals, Sets, Takes, passed_at, unpacked, IsIdle, IsCarriedStamp, IsRight, IsFixedWord, MayPutPort, OfOwned, Owns, PutsBy, SetsLists, SetsNext, TakesBy, HasSetWords, initial_words, slot_counter, FindsClear, after_value, after_values, value_word, initial_record, SetsValue, FoundValue, Searches, GivesBack, HasPassedArenas, BeginsSearch, BeginsPass, None, true, false, ◌⊎◌}, Changes.{may_give, may_load_port, may_pass, may_put, may_seal, may_take}, Sets.{may_find_clear, may_set_over_lists, may_set_same, may_set_stamp, may_set_value, value_at}, Publishes.may_publish, Standing.{base_is, site_is}, Searching.{may_begin_pass, may_begin_search}}
+use Rattle.partial_long_lived.proofs.{Common.{ℕ, ◌≡◌, ◌≢◌, ◌+◌, ◌-◌, ◌*◌, ◌%◌, ◌^◌, ◌<◌, ◌≤◌, ◌==◌, Bool, if◌then◌else◌, Option, Some, IfSome, List, [], ◌∷◌, sym, ap, subst, ◌∙◌, inl, inr, arith, lt-ltb, either, Me, Allows, TableId, first_free, list_base, opening_word, Site, Plan, arena_limit, at_word, base, entering_bit, entering_from, own_word, packed, seal, set_word, OwnedArena, Port, Stands, next_site, passing_port, below_whole, set_index, About, Stand, IsRuleKept, SeatedPort, one_of, plan_of, bare, shape_plan, SeatGoes, IsOne, tells, IsHeld, port_at, SeatGives, LoadsPort, PassesSealed, SeatPublishes, PutsPort, Seals, Sets, Takes, passed_at, unpacked, IsIdle, IsCarriedStamp, IsRight, IsFixedWord, MayPutPort, OfOwned, Owns, PutsBy, SetsLists, SetsNext, TakesBy, HasSetWords, initial_words, slot_counter, FindsClear, after_value, after_values, value_word, initial_record, SetsValue, FoundValue, Searches, GivesBack, HasPassedArenas, BeginsSearch, BeginsPass, None, true, false, ◌⊎◌, FindsSet}, Changes.{may_give, may_load_port, may_pass, may_put, may_seal, may_take}, Sets.{may_find_clear, may_set_over_lists, may_set_same, may_set_stamp, may_set_value, value_at}, Publishes.may_publish, Sights.may_find_set, Standing.{base_is, site_is}, Searching.{may_begin_pass, may_begin_search}, Working.found_other}
 use Rattle.partial_long_lived.proofs.Control as Control
 
 -- a step by the arena that the port owns
@@ -185,6 +185,27 @@ module _ (table : TableId) (about : About) (s : Stand) (h : IsHeld table about s
       (subst (λ v. Allows (IsRuleKept about) slots id s.seat.me (set_word e o.arena o.set) (λ n. v) (tells (Sets o (after_value about.sizes o.set)) s.seat.me)) (sym found.value)
       (may_set_value about slots id s.seat.me h.one h.own h.known o found.found works.is works.clean passed found.is
       (at ∙ ap (λ j. value_word (initial_record about.sizes j)) (sym component)) (omega (arith, component, low))))))
+
+  -- the word of the value of an initial record
+  pub value_word_is : (y j r n i w : ℕ) → w ≡ set_word (shape_plan s.shape bare) y i → i ≡ value_word n → n ≡ r → r ≡ initial_record s.shape.sizes j →
+      w ≡ set_word (shape_plan s.shape bare) y (value_word (initial_record about.sizes j))
+  value_word_is y j r n i w at word widened record_is =
+      at ∙ ap (set_word (shape_plan s.shape bare) y) (word ∙ ap value_word (widened ∙ record_is ∙ ap (λ (e : Plan). initial_record e.sizes j) (sym h.shape)))
+
+  -- the load of a word that is to be set to v, where the store may set it; and the store, where the load has found another number
+  pub find_set_asked : (R : SeatedPort → ℕ → SeatedPort → Type 0) (v u : ℕ) → u ≡ v → x.port.control.entering ≡ Stands → (slots id w : ℕ) →
+      Allows (IsRuleKept about) slots id s.seat.me w (λ n. v) (tells R s.seat.me) → Allows (IsRuleKept about) slots id s.seat.me w (λ n. n) (tells (FindsSet u R) s.seat.me)
+  find_set_asked R v u wanted stands slots id w asked = subst (λ u. Allows (IsRuleKept about) slots id s.seat.me w (λ n. n) (tells (FindsSet u R) s.seat.me)) (sym wanted)
+      (may_find_set about slots id s.seat.me h.one h.own h.known stands v w R asked)
+
+  pub set_other_asked : (R : SeatedPort → ℕ → SeatedPort → Type 0) (v u : ℕ) → u ≡ v → (me : Me (Unit {0}) (List SeatedPort)) (a : ℕ) → tells (FindsSet u R) s.seat.me a me → a ≢ v → (slots id w : ℕ) →
+      Allows (IsRuleKept about) slots id s.seat.me w (λ n. v) (tells R s.seat.me) → Allows (IsRuleKept about) slots id me w (λ n. v) (tells R me)
+  set_other_asked R v u wanted me a told ne slots id w asked =
+      let same : one_of me.0 ≡ x = found_other R v u wanted x a (one_of me.0) told.2 ne in
+      let views : me.0 ≡ s.seat.me.0 = told.0.0 ∙ ap (λ (y : SeatedPort). y ∷ []) same ∙ sym h.one.0 in
+      let carried : me.1 ≡ s.seat.me.1 = told.0.1 ∙ sym h.one.1 in
+      let all : me ≡ s.seat.me = ap (λ (v : List SeatedPort). (v, me.1)) views ∙ ap (λ c. (s.seat.me.0, c)) carried in
+      subst (λ me. Allows (IsRuleKept about) slots id me w (λ n. v) (tells R me)) (sym all) asked
 
   -- the load of the slot counter
   pub clear_there : (y w : ℕ) → y < about.arenas → w ≡ base (shape_plan s.shape bare) y + slot_counter s.shape.sizes → w < table.words

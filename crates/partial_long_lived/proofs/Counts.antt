@@ -31,6 +31,10 @@ threes_within k i n a b c low so_far one = omega (arith, low, so_far, one)
 pub threes_all : (k i n a b : ℕ) → i ≤ n → b ≤ a + (k + 3 * i) → b ≤ a + (k + 3 * n)
 threes_all k i n a b few so_far = omega (arith, few, so_far)
 
+-- and where each makes four
+pub fours_more : (k i a b c : ℕ) → b ≤ a + (k + 4 * i) → c ≤ b + 4 → c ≤ a + (k + 4 * (i + 1))
+fours_more k i a b c so_far one = omega (arith, so_far, one)
+
 -- an arena that is taken, looked over and given back, and one that isn't taken
 pub arena_within : (n a b c d : ℕ) → b ≤ a + 1 → c ≤ b + (1 + 3 * n) → d ≤ c + 1 → d ≤ a + (3 * n + 3)
 arena_within n a b c d taken looked given = omega (arith, taken, looked, given)
@@ -63,10 +67,10 @@ pub fronts_more : (k i a b c : ℕ) → b + k ≤ a + i → c ≤ b + 1 → c + 
 fronts_more k i a b c so_far one = omega (arith, so_far, one)
 
 -- the values of all components, and their stamps
-pub values_set : (k i n a b : ℕ) → i ≤ n → b ≤ a + (k + 3 * i) → b ≤ a + (k + 3 * n + 3 * 0)
+pub values_set : (k i n a b : ℕ) → i ≤ n → b ≤ a + (k + 4 * i) → b ≤ a + (k + 4 * n + 4 * 0)
 values_set k i n a b few so_far = omega (arith, few, so_far)
 
-pub stamps_set : (k i n a b : ℕ) → i ≤ n → b ≤ a + (k + 3 * n + 3 * i) → b ≤ a + (k + 6 * n)
+pub stamps_set : (k i n a b : ℕ) → i ≤ n → b ≤ a + (k + 4 * n + 4 * i) → b ≤ a + (k + 8 * n)
 stamps_set k i n a b few so_far = omega (arith, few, so_far)
 
 pub one_after : (a b : ℕ) → a + b + 1 ≡ a + (b + 1)

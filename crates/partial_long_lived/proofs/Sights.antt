@@ -1,5 +1,5 @@
 -- The loads of a call are allowed.
-use Rattle.partial_long_lived.proofs.{Common.{ℕ, ◌≡◌, ◌+◌, ◌<◌, Bool, List, slice_index, slice_set, refl, sym, ap, subst, ◌∙◌, arith, Me, Allows, Noted, Plan, base, Port, Stands, Beside, site_now, LawfulMemory, Reckons, Reckoning, About, IsRuleKept, IsSeat, SeatedPort, one_of, plan_of, IsSeatKnown, IsOne, tells, Recalls, SeatSees, Wish, MayNoteScan, NotesScan, notes_scan, IsSince}, Control.{by_rest, load_same, moved_quietly}, Kept.{Moved, allowed}, Loads.{IsFinding, moved_note, moved_see, recalled, seat_is}}
+use Rattle.partial_long_lived.proofs.{Common.{ℕ, ◌≡◌, ◌+◌, ◌<◌, Bool, List, slice_index, slice_set, refl, sym, ap, subst, ◌∙◌, arith, Me, Allows, Noted, Plan, base, Port, Stands, Beside, site_now, LawfulMemory, Reckons, Reckoning, About, IsRuleKept, IsSeat, SeatedPort, one_of, plan_of, IsSeatKnown, IsOne, tells, Recalls, SeatSees, Wish, MayNoteScan, NotesScan, notes_scan, IsSince, FindsSet, eqb_tells, inl, inr}, Control.{by_rest, load_same, moved_quietly}, Kept.{Moved, allowed}, Loads.{IsFinding, moved_note, moved_see, recalled, seat_is}}
 
 -- nothing has changed
 pub nothing_moved : (a : About) (words words' : List ℕ) (ports : ℕ → Port) (notes : ℕ → List Noted) (b : Beside) (reckoned : Reckoning) (w : LawfulMemory (plan_of a) words ports b notes) →
@@ -45,3 +45,21 @@ module _ {S : Type 0} (a : About) (slots id : ℕ) (me : Me S (List SeatedPort))
       let P : SeatedPort → Type 0 = λ z. Moved a words (slice_set words i (slice_index words i)) ports notes b reckoned z (NotesScan js m i z (slice_index words i)) in
       subst P (sym same) (moved_note a words ports notes b reckoned w time x.number s.number x.began x.found x.contention (ap (λ (p : Port). p.control.entering) (sym s.port) ∙ stands)
       (subst (IsSeat a words ports notes b reckoned) same s) (subst IsSeatKnown same known) js m (subst (MayNoteScan js m) same may) i))
+
+  -- one that shows nothing
+  may_rest : (i : ℕ) → Allows (IsRuleKept a) slots id me i (λ n. n) (tells (λ x n y. y ≡ x) me)
+  may_rest i = allowed a slots id me i (λ n. n) (λ x n y. y ≡ x) one own (λ words ports notes b reckoned w time s small.
+      nothing_moved a words (slice_set words i (slice_index words i)) ports notes b reckoned w time x s own known (ap (λ (p : Port). p.control.entering) (sym s.port) ∙ stands) (sym (load_same words i))
+      (λ y. y ≡ x) refl)
+
+  -- one of a word that is to be set to v: the step that sets it, where it is v already
+  pub may_find_set : (v i : ℕ) (R : SeatedPort → ℕ → SeatedPort → Type 0) → Allows (IsRuleKept a) slots id me i (λ n. v) (tells R me) →
+      Allows (IsRuleKept a) slots id me i (λ n. n) (tells (FindsSet v R) me)
+  may_find_set v i R sets table kept homes at small = elim (eqb_tells (slice_index table.words i) v) [
+    | inl same ↦ let to = subst (λ u. Allows (IsRuleKept a) slots id me i (λ n. u) (tells R me)) (sym same.1) sets table kept homes at small in
+        let says = to.4 in
+        (to.0, to.1, to.2, to.3, (says.0, says.1, inl (same.1, says.2)))
+    | inr other ↦ let to = may_rest i table kept homes at small in
+        let says = to.4 in
+        (to.0, to.1, to.2, to.3, (says.0, says.1, inr (other.1, says.2)))
+  ]

@@ -2,11 +2,19 @@
 use Rattle.std.proofs.Common.{le-ltb}
 use Rattle.partial_long_lived.specs.declared.claim.Claimed.{Claimed}
 use Rattle.partial_long_lived.specs.declared.claim.Claimed.TheVariants.{Clean, Taken, Ended}
-use Rattle.partial_long_lived.proofs.{Common.{ℕ, value_word, initial_record, ◌≡◌, ◌≢◌, ◌+◌, ◌-◌, ◌%◌, ◌<◌, ◌≤◌, Bool, true, if◌then◌else◌, Option, Some, None, IfSome, refl, sym, ap, subst, ◌∙◌, inl, inr, arith, nat_lt, lt-ltb, Layout, first_free, Site, arena_limit, entering_bit, entering_from, OwnedArena, Stands, at_next_port, having_loaded, owning_port, resting_arena, not_below, About, Stand, SeatedPort, port_at, LoadsPort, SeatPublishes, PutsPort, Sets, becomes, elsewhere, port_loaded, port_put, unpacked, HasLoadedPort, IsRight, MayPutPort, OfOwned, Owns, PutsBy, SetsLists, SetsValue, HasControl, Control, after_value, after_values, SetsNext, HasSetWords, FindsClear, Contention, Takes, contention_loading, contention_putting, contention_there, cases_lt, ◌⊎◌, TakesBy, Searches, SearchesOn, search_at, MeetsPort, HasPassedArenas, passing, meeting, GivesBack, SeatGives, having_given, just_taken, taken_at, contention_taking, Port, false, eqb_tells, ◌&&◌, ◌==◌, MeetsBy}, Sets.{alike, unlike, value_behind}}
+use Rattle.partial_long_lived.proofs.{Common.{ℕ, value_word, initial_record, ◌≡◌, ◌≢◌, ◌+◌, ◌-◌, ◌%◌, ◌<◌, ◌≤◌, Bool, true, if◌then◌else◌, Option, Some, None, IfSome, refl, sym, ap, subst, ◌∙◌, inl, inr, arith, nat_lt, lt-ltb, Layout, first_free, Site, arena_limit, entering_bit, entering_from, OwnedArena, Stands, at_next_port, having_loaded, owning_port, resting_arena, not_below, About, Stand, SeatedPort, port_at, LoadsPort, SeatPublishes, PutsPort, Sets, becomes, elsewhere, port_loaded, port_put, unpacked, HasLoadedPort, IsRight, MayPutPort, OfOwned, Owns, PutsBy, SetsLists, SetsValue, HasControl, Control, after_value, after_values, SetsNext, HasSetWords, FindsClear, Contention, Takes, contention_loading, contention_putting, contention_there, cases_lt, ◌⊎◌, TakesBy, Searches, SearchesOn, search_at, MeetsPort, HasPassedArenas, passing, meeting, GivesBack, SeatGives, having_given, just_taken, taken_at, contention_taking, Port, false, eqb_tells, ◌&&◌, ◌==◌, MeetsBy, FindsSet}, Sets.{alike, unlike, value_behind}}
 
 -- a step by the arena that the port owns
 own_told : (R : OwnedArena → SeatedPort → ℕ → SeatedPort → Type 0) (x : SeatedPort) (a : ℕ) (y : SeatedPort) (o : OwnedArena) → x.port.control.owned ≡ Some o → OfOwned R x a y → R o x a y
 own_told R x a y o is told = subst (λ (t : Option OwnedArena). IfSome t (λ o. R o x a y)) is told
+
+-- the load of a word that is to be set to v: it has found that, or another number
+module _ (R : SeatedPort → ℕ → SeatedPort → Type 0) (v u : ℕ) (wanted : u ≡ v) (x : SeatedPort) (a : ℕ) (y : SeatedPort) (found : FindsSet u R x a y) where
+  pub found_set : a ≡ v → R x a y
+  found_set at = elim found [ inl set ↦ set.1 | inr other ↦ absurd (other.0 (at ∙ sym wanted)) ]
+
+  pub found_other : a ≢ v → y ≡ x
+  found_other ne = elim found [ inl set ↦ absurd (ne (set.0 ∙ wanted)) | inr other ↦ other.1 ]
 
 -- the words that are set are those of an opening, and carried stamps
 pub right_low : (about : About) (x : SeatedPort) (v i : ℕ) → x.about ≡ about → IsRight x v i → i < first_free about.sizes + about.sizes.m

@@ -19,9 +19,9 @@ abbrev pub claim_steps : About → ℕ
 claim_steps a = 1 + (most_freed a.ports + 1) * pass_steps a
 
 -- the words of the next epoch: the load of the slot counter, the stores before the list words, and of each component the loads of its last
--- record's value and stamp and their stores
+-- record's value and stamp, those of the words that are to have them, and their stores
 abbrev pub fill_steps : About → ℕ
-fill_steps a = 1 + list_base a.sizes + 6 * a.sizes.m
+fill_steps a = 1 + list_base a.sizes + 8 * a.sizes.m
 
 -- how often, for each component, a port looks whether its epoch has ended once it finds that another one seals the components
 abbrev pub patience : ℕ

@@ -35,11 +35,11 @@ MakesAtMost count ports n = (o : Options) (a : About) → IsUsual o → IsOpened
 
 -- the numbers of 3 components and 2 ports
 abbrev pub few_components : MostSteps
-few_components = record { change = 4898; update = 490080; update_if = 490128; whole_scan = 4939; scan = 4912 }
+few_components = record { change = 4904; update = 490176; update_if = 490224; whole_scan = 4945; scan = 4918 }
 
 -- the numbers of 64 components and 4 ports
 abbrev pub more_components : MostSteps
-more_components = record { change = 14234; update = 4715536; update_if = 4715584; whole_scan = 18850; scan = 14370 }
+more_components = record { change = 14362; update = 4717584; update_if = 4717632; whole_scan = 18978; scan = 14498 }
 
 -- the bounds of the calls in memories of these two sizes are these numbers
 abbrev pub MostStepsInNumbers : Type 0

@@ -2,6 +2,7 @@
 
 use crate::rule::View;
 use partial_table::Play;
+use std::marker::{Brand, PhantomData};
 
 /// The load of the word of the next component.
 pub struct Pass;
@@ -123,6 +124,41 @@ impl Play<(), View> for SetValue {
     ghost use Rattle.partial_long_lived.specs.Inner.Changing.{SetsValue};
 
     ghost then = { λ _. tells SetsValue };
+}
+
+/// The number to which the next word of the owned arena is to be set. Each load before a store picks its own.
+pub trait Wanted {
+    ghost use Rattle.std.specs.Prelude.{ℕ};
+
+    ghost value: { ℕ };
+}
+
+impl Wanted for Brand {
+    ghost value = { 0 };
+}
+
+/// The load of the next word of the owned arena. If it finds `G`, the load sets the word.
+pub struct FindSetWord<G> {
+    wanted: PhantomData<G>,
+}
+
+impl<G: Wanted> Play<(), View> for FindSetWord<G> {
+    ghost use Rattle.partial_long_lived.specs.Inner.Steps.{tells};
+    ghost use Rattle.partial_long_lived.specs.Inner.Changing.{FindsSet, SetsNext};
+
+    ghost then = { λ _. tells (FindsSet G.value SetsNext) };
+}
+
+/// The load of the value of the next initial record. If it finds `G`, the load sets the value.
+pub struct FindSetValue<G> {
+    wanted: PhantomData<G>,
+}
+
+impl<G: Wanted> Play<(), View> for FindSetValue<G> {
+    ghost use Rattle.partial_long_lived.specs.Inner.Steps.{tells};
+    ghost use Rattle.partial_long_lived.specs.Inner.Changing.{FindsSet, SetsValue};
+
+    ghost then = { λ _. tells (FindsSet G.value SetsValue) };
 }
 
 /// The load of a component word that is sealed, for what the next epoch begins with.

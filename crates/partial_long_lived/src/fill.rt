@@ -7,13 +7,16 @@ ghost use Rattle.partial_words.specs.Layout.{first_free, list_base};
 ghost use Rattle.partial_words.specs.Chain.{opening_word};
 ghost use Rattle.partial_long_lived.specs.Rule.{plan_of};
 ghost use Rattle.partial_long_lived.specs.Inner.Held.{IsHeld, port_at};
-ghost use Rattle.partial_long_lived.specs.Inner.Changing.{HasPassed, IsRight, Stays, HasSetWords, after_values};
+ghost use Rattle.partial_long_lived.specs.Inner.Changing.{FoundValue, HasPassed, IsRight, Stays, HasSetWords, after_values};
 
-use crate::change_plays::{FindClear, SetLists, SetValue, SetWord};
+use crate::change_plays::{
+    FindClear, FindSetValue, FindSetWord, SetLists, SetValue, SetWord, Wanted,
+};
 use crate::find::{find_stamp, find_value};
 use crate::rule::Words;
 use crate::stand::Stand;
 use partial_words::{Sizes, value_word};
+use std::marker::Brand;
 
 /// Sets all words of the arena, which begins at `first`: a caller takes that from the shape once, since after an atomic
 /// store a compiler takes it from there anew.
@@ -134,14 +137,44 @@ fn fill_record(words: &Words, stand: &mut Stand, arena: u32, first: u64, compone
     ensures passed { HasPassed stand.old stand.new }
     ensures works { HasSetWords stand.new arena words.now.key.ports
         (after_values words.now.key.sizes (component + 1)) }
-    ensures steps { stand.new.seat.steps ≤ stand.old.seat.steps + 3 }
+    ensures steps { stand.new.seat.steps ≤ stand.old.seat.steps + 4 }
 {
     let value = find_value(words, stand, component);
+    set_value::<Brand>(words, stand, arena, first, component, value);
+}
+
+// Sets that value, unless the arena has it already, from an epoch that it held before. `G` is the value.
+#[inline(always)]
+fn set_value<G: Wanted>(
+    words: &Words,
+    stand: &mut Stand,
+    arena: u32,
+    first: u64,
+    component: u32,
+    value: u64,
+)
+    requires held { IsHeld words.now.table_id words.now.key stand.old }
+    requires works { HasSetWords stand.old arena words.now.key.ports (after_values words.now.key.sizes component) }
+    requires inside { arena < words.now.key.arenas }
+    requires first { first ≡ base (plan_of words.now.key) arena }
+    requires within { component < words.now.key.sizes.m }
+    requires sealed { words.now.key.sizes.m ≤ (port_at stand.old).port.passed }
+    requires wanted { G.value ≡ value }
+    requires found { FoundValue stand.old component value }
+    ensures held { IsHeld words.now.table_id words.now.key stand.new }
+    ensures stays { Stays stand.old stand.new }
+    ensures passed { HasPassed stand.old stand.new }
+    ensures works { HasSetWords stand.new arena words.now.key.ports
+        (after_values words.now.key.sizes (component + 1)) }
+    ensures steps { stand.new.seat.steps ≤ stand.old.seat.steps + 2 }
+{
     let record = u64::from(stand.shape.sizes.initial_record(component));
     let at = stand
         .shape
         .set_word(first, arena, value_word(record) as u32) as usize;
-    words.store::<SetValue>(&mut stand.seat, at, value);
+    if words.load::<FindSetValue<G>>(&mut stand.seat, at) != value {
+        words.store::<SetValue>(&mut stand.seat, at, value);
+    }
 }
 
 // Sets the stamp that a component carries into the next epoch.
@@ -156,11 +189,40 @@ fn fill_stamp(words: &Words, stand: &mut Stand, arena: u32, first: u64, componen
     ensures stays { Stays stand.old stand.new }
     ensures passed { HasPassed stand.old stand.new }
     ensures works { HasSetWords stand.new arena words.now.key.ports (first_free words.now.key.sizes + component + 1) }
-    ensures steps { stand.new.seat.steps ≤ stand.old.seat.steps + 3 }
+    ensures steps { stand.new.seat.steps ≤ stand.old.seat.steps + 4 }
 {
     let stamp = find_stamp(words, stand, component);
     let word = stand.shape.sizes.first_free() + component;
-    set_word(words, stand, arena, first, word, stamp);
+    set_stamp::<Brand>(words, stand, arena, first, word, stamp);
+}
+
+// Sets the word of that stamp, unless it has the stamp already. `G` is the stamp.
+#[inline(always)]
+fn set_stamp<G: Wanted>(
+    words: &Words,
+    stand: &mut Stand,
+    arena: u32,
+    first: u64,
+    number: u32,
+    stamp: u64,
+)
+    requires held { IsHeld words.now.table_id words.now.key stand.old }
+    requires works { HasSetWords stand.old arena words.now.key.ports number }
+    requires inside { arena < words.now.key.arenas }
+    requires first { first ≡ base (plan_of words.now.key) arena }
+    requires sealed { words.now.key.sizes.m ≤ (port_at stand.old).port.passed }
+    requires wanted { G.value ≡ stamp }
+    requires right { IsRight (port_at stand.old) stamp number }
+    ensures held { IsHeld words.now.table_id words.now.key stand.new }
+    ensures stays { Stays stand.old stand.new }
+    ensures passed { HasPassed stand.old stand.new }
+    ensures works { HasSetWords stand.new arena words.now.key.ports (number + 1) }
+    ensures steps { stand.new.seat.steps ≤ stand.old.seat.steps + 2 }
+{
+    let at = stand.shape.set_word(first, arena, number) as usize;
+    if words.load::<FindSetWord<G>>(&mut stand.seat, at) != stamp {
+        words.store::<SetWord>(&mut stand.seat, at, stamp);
+    }
 }
 
 // Sets the next word of the arena, which is the one with that number in the order in which they are set.

@@ -23,9 +23,9 @@ pub fn arenas_begin_lines()
     ensures { ArenasBeginLines }
 {}
 
-/// With the usual options a memory of 3 components and 2 ports makes at most 4,898 steps in a change of epoch, 490,080 in
-/// an update, 490,128 in a conditional one, and 4,939 in a scan of all components. With 64 components and 4 ports these are
-/// 14,234, 4,715,536, 4,715,584 and 18,850.
+/// With the usual options a memory of 3 components and 2 ports makes at most 4,904 steps in a change of epoch, 490,176 in
+/// an update, 490,224 in a conditional one, and 4,945 in a scan of all components. With 64 components and 4 ports these are
+/// 14,362, 4,717,584, 4,717,632 and 18,978.
 pub fn most_steps_in_numbers()
     ensures { MostStepsInNumbers }
 {}

@@ -58,6 +58,10 @@ SetsLists x a y = OfOwned (λ o. Sets o (after_values x.about.sizes 0)) x a y
 abbrev pub SetsValue : SeatedPort → ℕ → SeatedPort → Type 0
 SetsValue x a y = OfOwned (λ o. Sets o (after_value x.about.sizes o.set)) x a y
 
+-- The load of a word that is to be set to v. Where the word is v already, the load is the step R that sets it; otherwise it shows nothing.
+abbrev pub FindsSet : ℕ → (SeatedPort → ℕ → SeatedPort → Type 0) → SeatedPort → ℕ → SeatedPort → Type 0
+FindsSet v R x a y = ((a ≡ v) × R x a y) ⊎ ((a ≢ v) × (y ≡ x))
+
 -- The port stands where it stood, in the same call, with the same notes; what it has seen, passed, found and owns may be another.
 pub record Stays (s t : Stand) : Type 0 where
   pub shape : t.shape ≡ s.shape

@@ -1,5 +1,5 @@
 use Rattle.std.proofs.Common.{tests}
-use Rattle.partial_long_lived.proofs.{Common.{rules, ◌≡◌, ◌+◌, ◌≤◌, ap, subst, sym, arith, first_free, Plan, Stays, HasSetWords}, Counts.{one_after, stamps_set, threes_more, values_set}, Staying.stays_then, Working.{after_last}}
+use Rattle.partial_long_lived.proofs.{Common.{rules, ◌≡◌, ◌+◌, ◌≤◌, ap, subst, sym, arith, first_free, Plan, Stays, HasSetWords}, Counts.{fours_more, one_after, stamps_set, values_set}, Staying.stays_then, Working.{after_last}}
 use Rattle.partial_long_lived.proofs.fill.fill.Goals as goal
 
 pub loop-component-init : goal.loop-component-init
@@ -18,7 +18,7 @@ loop-component-preserved c =
       stays = stays_then _ _ _ so_far.stays set.stays;
       sealed = subst (λ n. c.args.words.now.key.sizes.m ≤ n) (sym set.passed) so_far.sealed;
       works = set.works;
-      steps = threes_more _ _ _ _ _ so_far.steps set.steps;
+      steps = fours_more _ _ _ _ _ so_far.steps set.steps;
     }
 
 pub loop-component-2-init : goal.loop-component-2-init
@@ -45,7 +45,7 @@ loop-component-2-preserved c =
       sealed = subst (λ n. c.args.words.now.key.sizes.m ≤ n) (sym set.passed) so_far.sealed;
       works = subst (λ n. HasSetWords c.fill_stamp.new.stand c.args.arena c.args.words.now.key.ports n)
           (one_after (first_free c.args.words.now.key.sizes) c.loop-component-2.component) set.works;
-      steps = threes_more _ _ _ _ _ so_far.steps set.steps;
+      steps = fours_more _ _ _ _ _ so_far.steps set.steps;
     }
 
 pub returns : goal.returns

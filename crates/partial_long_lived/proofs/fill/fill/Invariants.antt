@@ -7,7 +7,7 @@ invariant-loop-component l = record {
   stays : Stays l.fn.stand l.stand;
   sealed : l.words.key.sizes.m ≤ (port_at l.stand).port.passed;
   works : HasSetWords l.stand l.arena l.words.key.ports (after_values l.words.key.sizes l.component);
-  steps : l.stand.seat.steps ≤ l.fn.stand.seat.steps + (1 + list_base l.words.key.sizes + 3 * l.component);
+  steps : l.stand.seat.steps ≤ l.fn.stand.seat.steps + (1 + list_base l.words.key.sizes + 4 * l.component);
 }
 
 abbrev pub invariant-loop-component-2 : goal.invariant-loop-component-2
@@ -16,5 +16,5 @@ invariant-loop-component-2 l = record {
   stays : Stays l.fn.stand l.stand;
   sealed : l.words.key.sizes.m ≤ (port_at l.stand).port.passed;
   works : HasSetWords l.stand l.arena l.words.key.ports (first_free l.words.key.sizes + l.component);
-  steps : l.stand.seat.steps ≤ l.fn.stand.seat.steps + (1 + list_base l.words.key.sizes + 3 * l.words.key.sizes.m + 3 * l.component);
+  steps : l.stand.seat.steps ≤ l.fn.stand.seat.steps + (1 + list_base l.words.key.sizes + 4 * l.words.key.sizes.m + 4 * l.component);
 }
