@@ -48,7 +48,7 @@ build library "$PWD/crates/partial_door/out/libpartial_door.a" ""
 build bitcode "$made/libpartial_door.a" "$flags"
 measure library >"$made/library.md"
 measure bitcode >"$made/bitcode.md"
-# The page has the first table and that of sizes, and what is said of all of them.
+# The page has the first table, that of sizes and that of scans of all components, and what is said of all of them.
 {
     cat benches/head.md
     printf '\n## The table\n\n'
@@ -56,7 +56,9 @@ measure bitcode >"$made/bitcode.md"
     sed '/^$/q' "$made/library.md"
     grep '^Left out' "$made/library.md"
     printf '\n## Sizes of the memory\n\n'
-    sed -n '/^An update of the long-lived memory/,$p' "$made/library.md"
+    sed -n '/^An update of the long-lived memory/,$p' "$made/library.md" | sed '/^A scan of all components/,$d'
+    printf '## Scans of all components\n\n'
+    sed -n '/^A scan of all components beside 3 writers/,$p' "$made/library.md"
 } >docs/benches.md
 # The words before the tables stay as they are.
 {

@@ -8,19 +8,21 @@ mod objects;
 mod parts;
 mod processors;
 mod raw;
+mod scans;
 mod sizes;
 mod tables;
 mod versions;
 
 use benches::BENCHES;
 use objects::NAMES;
+use scans::Scans;
 use sizes::Sizes;
 use tables::Results;
 
 const REPETITIONS: usize = 7;
 
 fn main() {
-    let (mut results, mut sizes) = (Results::new(), Sizes::new());
+    let (mut results, mut sizes, mut scans) = (Results::new(), Sizes::new(), Scans::new());
     for repetition in 0..REPETITIONS {
         for (row, bench) in BENCHES.iter().enumerate() {
             for turn in 0..bench.rounds * NAMES.len() {
@@ -29,8 +31,11 @@ fn main() {
             }
         }
         sizes.add();
+        scans.add();
     }
     results.print();
     println!();
     sizes.print();
+    println!();
+    scans.print();
 }

@@ -15,16 +15,28 @@ const CALLS: u32 = 1_000;
 /// The samples of each size, one for each repetition.
 pub struct Sizes(Vec<Row>);
 
-struct Row {
-    components: usize,
-    ports: u32,
-    samples: Vec<[f64; 4]>,
+/// Those of one size.
+pub struct Row {
+    pub components: usize,
+    pub ports: u32,
+    pub samples: Vec<[f64; 4]>,
+}
+
+impl Row {
+    pub fn new(components: usize, ports: u32) -> Row {
+        Row { components, ports, samples: Vec::new() }
+    }
+
+    /// The medians, as cells of Markdown.
+    pub fn cells(&self) -> String {
+        let cells = [0, 1, 2, 3].map(|at| cell(self.samples.iter().map(|sample| sample[at]).collect()));
+        cells.join(" | ")
+    }
 }
 
 impl Sizes {
     pub fn new() -> Sizes {
-        let row = |components, ports| Row { components, ports, samples: Vec::new() };
-        Sizes(PORTS.iter().flat_map(|&ports| COMPONENTS.map(|components| row(components, ports))).collect())
+        Sizes(PORTS.iter().flat_map(|&ports| COMPONENTS.map(|components| Row::new(components, ports))).collect())
     }
 
     /// Measures each size once.
@@ -39,15 +51,14 @@ impl Sizes {
         println!("An update of the long-lived memory, in nanoseconds, and how many of them an epoch has:\n");
         println!("| components | ports | mean | 99.99 % take at most | the slowest | updates an epoch |");
         println!("|---|---|---|---|---|---|");
-        for Row { components, ports, samples } in &self.0 {
-            let cells: Vec<String> = (0..4).map(|at| cell(samples.iter().map(|sample| sample[at]).collect())).collect();
-            println!("| {} | {ports} | {} |", grouped(*components), cells.join(" | "));
+        for row in &self.0 {
+            println!("| {} | {} | {} |", grouped(row.components), row.ports, row.cells());
         }
     }
 }
 
-// A number below a million, its thousands apart.
-fn grouped(number: usize) -> String {
+/// A number below a million, its thousands apart.
+pub fn grouped(number: usize) -> String {
     match number {
         0..1_000 => number.to_string(),
         _ => format!("{},{:03}", number / 1_000, number % 1_000),
@@ -121,8 +132,8 @@ fn make(port: &mut Port, thread: u32, updates: u32, components: usize) -> Made {
     made
 }
 
-// The epoch of an update.
-fn update(port: &mut Port, call: u32, components: usize) -> u64 {
+/// Makes an update of the components in turns. Returns its epoch.
+pub fn update(port: &mut Port, call: u32, components: usize) -> u64 {
     match port.retry(|port| port.update(call % components as u32, u64::from(call))).expect("it is made") {
         Updated::Applied { stamp } | Updated::Lost { by: stamp } => stamp.epoch(),
     }
