@@ -492,13 +492,13 @@ static uint64_t scan_by_change(enum kind kind, uint64_t r)
     return made - tried - loads(kind, r);
 }
 
-/* Two steps seal a component, and eight set its words in an arena that held no epoch before: a component that was updated
+/* One step seals a component, and eight set its words in an arena that held no epoch before: a component that was updated
  * has its value stored, and the stamp of another one is loaded. */
 static void test_scans_by_change(void)
 {
     const uint64_t positions[] = {1, FEW, MANY / 10, MANY};
     const uint64_t change = scan_by_change(SCANS, MANY / 2);
-    check(change > 10 * MANY && change <= most_of_change, "it changes the epoch by itself", names[SCANS]);
+    check(change > 9 * MANY && change <= most_of_change, "it changes the epoch by itself", names[SCANS]);
     for (enum kind kind = SCANS; kind <= SCANS_STAMPED; kind++) {
         for (size_t k = 0; k < sizeof positions / sizeof *positions; k++) {
             check(scan_by_change(kind, positions[k]) == change,

@@ -60,7 +60,7 @@ def change(ports, m):
     """The most steps of a change of epoch in a memory of m components (`most_of_change`)."""
     passes = ports * (2 * ports + 3) + 1
     claim = 1 + passes * (2 * ports * (3 * ports + 3) + 1)
-    return (1 + 64 * m + 2 * m) + claim + (1 + m + 4 + counts.slots(ports, m) + 8 * m) + 6
+    return (1 + 64 * m + m) + claim + (1 + m + 4 + counts.slots(ports, m) + 8 * m) + 6
 
 
 def bounds(many):

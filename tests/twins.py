@@ -18,6 +18,7 @@ import re
 import shutil
 import sys
 import tempfile
+import time
 from dataclasses import dataclass, field
 from pathlib import Path
 
@@ -25,6 +26,8 @@ import edits
 from definitions import BEHIND, LACKING, OF_MEANING, SPENT
 from edits import PARTS, TOP
 
+# How often it is tried to copy the libraries, a second apart: what runs beside it may be making one anew.
+TRIES = 600
 # An error in a file, as the prover says it: the file, and why.
 ERROR = re.compile(r'^\./(\S+?\.(?:antt|rt)):\d+:\d+: error: (.*(?:\n  .*)*)', re.M)
 # What it says of a function of which it has no verdict.
@@ -89,9 +92,22 @@ def copied(name, room):
     for part in PARTS:
         if (TOP / 'crates' / name / part).is_dir():
             shutil.copytree(TOP / 'crates' / name / part, at / part)
-    kept = TOP / 'crates' / name / 'out' / 'incremental'
-    shutil.copytree(kept, at / 'kept') if kept.is_dir() else (at / 'kept').mkdir()
+    try:
+        shutil.copytree(TOP / 'crates' / name / 'out' / 'incremental', at / 'kept')
+    except (OSError, shutil.Error):
+        # Nothing is kept, or not all is there while it is made anew. It serves speed alone.
+        shutil.rmtree(at / 'kept', ignore_errors=True)
+        (at / 'kept').mkdir()
     return at
+
+
+def are_taken(libraries, names):
+    """Whether these libraries are in the folder of copies, once none of them is being made anew."""
+    for _ in range(TRIES):
+        if libraries.has(names):
+            return True
+        time.sleep(edits.PAUSE)
+    return False
 
 
 def why_not(twin, status, said):
@@ -114,8 +130,8 @@ def why_not(twin, status, said):
     return f'no verdict: {spent[1]}' if spent else None
 
 
-def try_twin(name, path, crates):
-    """Why a twin is not refused, or None."""
+def try_twin(name, path, crates, libraries):
+    """Why a twin is not refused over copies of these libraries, or None."""
     with tempfile.TemporaryDirectory(prefix='twin-') as there:
         room, proved = Path(there), Path(there) / 'proved'
         try:
@@ -125,9 +141,11 @@ def try_twin(name, path, crates):
             turn(above, (), twin.changes_above)
         except edits.BadEdit as bad:
             return f'bad twin: {bad}'
-        for library in edits.below(twin.above, crates):
-            if library != name:
-                shutil.copytree(TOP / 'crates' / library / 'out' / 'rlib', proved / library)
+        others = [it for it in edits.below(twin.above, crates) if it != name]
+        if not are_taken(libraries, others):
+            return f'a crate below {twin.above} is not proved'
+        for library in others:
+            shutil.copytree(libraries.folder / library, proved / library)
         (proved / name).mkdir(parents=True)
         build = edits.command_of(name, crates, proved)
         build[1:2] = ['build', '--links', f'{name}=', '-o', f'{proved}/{name}/{name}.rlib']
@@ -140,11 +158,13 @@ def try_twin(name, path, crates):
 def main():
     crates = edits.crates_of(TOP)
     passed = failed = 0
-    for name in crates:
-        for path in sorted((TOP / 'crates' / name / 'twins').glob('*')):
-            why = try_twin(name, path, crates)
-            passed, failed = passed + (why is None), failed + (why is not None)
-            print(f'{name}/{path.name}: ' + ('refused' if why is None else why), flush=True)
+    with tempfile.TemporaryDirectory(prefix='proved-') as there:
+        libraries = edits.Libraries(Path(there))
+        for name in crates:
+            for path in sorted((TOP / 'crates' / name / 'twins').glob('*')):
+                why = try_twin(name, path, crates, libraries)
+                passed, failed = passed + (why is None), failed + (why is not None)
+                print(f'{name}/{path.name}: ' + ('refused' if why is None else why), flush=True)
     print(f'{passed} passed, {failed} failed')
     return 1 if failed or not passed else 0
 

@@ -61,6 +61,21 @@ def cases():
             (Path(there) / 'a').write_text(text, encoding='utf-8')
             yield f'an old text in {text}', well != refused(twins.turn, Path(there), (), [('a', 'one', 'two')])
         yield 'what is not there is not removed', refused(twins.turn, Path(there), ['c'], ())
+    edits.PAUSE = 0
+    yield 'a library that is being made anew is waited for', twins.are_taken(Late(2), ['low'])
+    yield 'but not for ever', not twins.are_taken(Late(twins.TRIES), ['low'])
+
+
+class Late:
+    """Libraries that are there after so many questions."""
+
+    def __init__(self, questions):
+        self.questions = questions
+
+    def has(self, names):
+        """Whether they are there."""
+        self.questions -= 1
+        return self.questions < 0 and names == ['low']
 
 
 def refused(call, *given):

@@ -130,15 +130,16 @@ impl Times {
         Times { watch: Watch::new(), kept: Vec::new() }
     }
 
-    /// Times a call. It is left out when the thread had to give its processor away, which is asked of slow calls alone.
-    pub fn time<T>(&mut self, call: impl FnOnce() -> T) -> T {
+    /// Times a call, and returns its answer and its time. It is left out, and has none, when the thread had to give its
+    /// processor away, which is asked of slow calls alone.
+    pub fn time<T>(&mut self, call: impl FnOnce() -> T) -> (T, Option<u32>) {
         let from = Instant::now();
         let answer = call();
         let time = u32::try_from(from.elapsed().as_nanos()).unwrap_or(u32::MAX);
-        if time < SLOW || !self.watch.has_waited() {
-            self.kept.push(time);
-        }
-        answer
+        let counts = time < SLOW || !self.watch.has_waited();
+        let time = counts.then_some(time);
+        self.kept.extend(time);
+        (answer, time)
     }
 
     /// The times that were not left out.

@@ -19,7 +19,7 @@ const FEWEST: usize = 200;
 const MOST_ANNOUNCED: usize = 65_536;
 
 /// The samples of each size, one for each repetition.
-pub struct Scans(Vec<Row>);
+pub struct Scans(Vec<Row<4>>);
 
 impl Scans {
     pub fn new() -> Scans {
@@ -29,7 +29,7 @@ impl Scans {
     /// Measures each size once.
     pub fn add(&mut self) {
         for row in &mut self.0 {
-            row.samples.extend(sample(row.components, row.ports));
+            row.samples.push(sample(row.components, row.ports));
         }
     }
 
@@ -51,17 +51,20 @@ fn are_announced(components: usize, ports: u32) -> bool {
     ports as usize * components <= MOST_ANNOUNCED
 }
 
-// Nanoseconds of a scan: half of them, 99 of 100, the slowest; and of an update of the writers, in the mean. None when
-// no memory of this size opens, or each scan was left out.
-fn sample(components: usize, ports: u32) -> Option<[f64; 4]> {
-    let memory = Memory::builder().ports(ports).open(&vec![0; components]).ok()?;
+// Nanoseconds of a scan: half of them, 99 of 100, the slowest; and of an update of the writers, in the mean. There are
+// none when no memory of this size opens, and those of scans are none when each was left out.
+fn sample(components: usize, ports: u32) -> [Option<f64>; 4] {
+    let Ok(memory) = Memory::builder().ports(ports).open(&vec![0; components]) else {
+        return [None; 4];
+    };
     let (mut times, written) = scan_beside_writers(&memory);
     times.sort_unstable();
-    let slowest = times.len().checked_sub(1)?;
-    let [half, most, slowest] = [slowest / 2, slowest - slowest / 100, slowest].map(|at| f64::from(times[at]));
+    let slowest = times.len().saturating_sub(1);
+    let at = |at: usize| times.get(at).copied().map(f64::from);
+    let [half, most, slowest] = [slowest / 2, slowest - slowest / 100, slowest].map(at);
     let took: Duration = written.iter().map(|written| written.took).sum();
     let updates: u32 = written.iter().map(|written| written.updates).sum();
-    Some([half, most, slowest, took.as_nanos() as f64 / f64::from(updates)])
+    [half, most, slowest, Some(took.as_nanos() as f64 / f64::from(updates))]
 }
 
 // The times of the scans of a repetition, in nanoseconds, and what each writer made meanwhile.
@@ -115,7 +118,7 @@ mod tests {
 
     #[test]
     fn the_slowest_scan_takes_no_less_than_others() {
-        let [half, most, slowest, update] = sample(64, 4).expect("it opens");
+        let [half, most, slowest, update] = sample(64, 4).map(|value| value.expect("it opens"));
         assert!(0.0 < half && half <= most && most <= slowest && update > 0.0, "{half} {most} {slowest} {update}");
     }
 

@@ -10,10 +10,6 @@ of_owned about slots id i f me R o is asked =
     subst (λ (t : Option OwnedArena). Allows (IsRuleKept about) slots id me i f (λ a me'. IsOne me' × SeatGoes (one_of me.0) (one_of me'.0) × IfSome t (λ o. R o (one_of me.0) a (one_of me'.0))))
     (sym is) asked
 
--- a component that isn't sealed isn't passed
-passed_not : (a : ℕ) (p : Port) → a < seal → passed_at a p ≡ p
-passed_not a p low = ap (λ (c : Bool). if c then p else passing_port p) (lt-ltb a seal low)
-
 -- a port that owns no arena may look
 idle_looks : (about : About) (s : Stand) → IsIdle s → Control.MayLook about (port_at s).port
 idle_looks about s free =
@@ -44,17 +40,12 @@ module _ (table : TableId) (about : About) (s : Stand) (h : IsHeld table about s
         subst (λ i. Allows (IsRuleKept about) slots id s.seat.me i (λ n. n) (tells PassesSealed s.seat.me)) (sym (at ∙ omega (arith, here, passed)))
         (may_pass about slots id s.seat.me h.one h.own h.known stands left)
 
-    pub seal_asked : (me : Me (Unit {0}) (List SeatedPort)) (a : ℕ) → tells PassesSealed s.seat.me a me → a < seal → (slots id i : ℕ) → i ≡ s.base + s.passed →
-        Allows (IsRuleKept about) slots id me i (λ n. (n + seal) % 2 ^ 64) (tells Seals me)
-    seal_asked me a told low slots id i at =
+    pub seal_asked : (slots id i : ℕ) → i ≡ s.base + s.passed → Allows (IsRuleKept about) slots id s.seat.me i (λ n. (n + seal) % 2 ^ 64) (tells Seals s.seat.me)
+    seal_asked slots id i at =
         let here = base_is table about s h in
         let passed = h.passed in
-        let same : (one_of me.0).port ≡ x.port = ap (λ (y : SeatedPort). y.port) told.2 ∙ passed_not a x.port low in
-        let word : i ≡ base e (one_of me.0).port.control.here.arena + (one_of me.0).port.passed =
-        at ∙ (omega (arith, here, passed)) ∙ sym (ap (λ (p : Port). base e p.control.here.arena + p.passed) same) in
-        subst (λ i. Allows (IsRuleKept about) slots id me i (λ n. (n + seal) % 2 ^ 64) (tells Seals me)) (sym word)
-        (may_seal about slots id me told.0 (told.1.about ∙ h.own) told.1.known (ap (λ (p : Port). p.control.entering) same ∙ stands)
-        (subst (λ (p : Port). p.passed < about.sizes.m) (sym same) left))
+        subst (λ i. Allows (IsRuleKept about) slots id s.seat.me i (λ n. (n + seal) % 2 ^ 64) (tells Seals s.seat.me)) (sym (at ∙ omega (arith, here, passed)))
+        (may_seal about slots id s.seat.me h.one h.own h.known stands left)
 
   -- the owner words
   pub own_is : (y w : ℕ) → w ≡ own_word (shape_plan s.shape bare) y → w ≡ own_word e y

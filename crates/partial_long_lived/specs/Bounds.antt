@@ -27,9 +27,9 @@ fill_steps a = 1 + list_base a.sizes + 8 * a.sizes.m
 abbrev pub patience : ℕ
 patience = 64
 
--- the seals: the load that finds component 0 sealed, the looks after it, and two steps to seal each component
+-- the seals: the load that finds component 0 sealed, the looks after it, and a seal on each component
 abbrev pub seal_steps : About → ℕ
-seal_steps a = 1 + patience * a.sizes.m + 2 * a.sizes.m
+seal_steps a = 1 + patience * a.sizes.m + a.sizes.m
 
 -- a change of epoch: a look, the seals, the passes, the words, the exchange of the current word, the store that gives the arena back, and
 -- the three steps of entering

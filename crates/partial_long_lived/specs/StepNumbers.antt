@@ -35,11 +35,11 @@ MakesAtMost count ports n = (o : Options) (a : About) → IsUsual o → IsOpened
 
 -- the numbers of 3 components and 2 ports
 abbrev pub few_components : MostSteps
-few_components = record { change = 4904; update = 490176; update_if = 490224; whole_scan = 4945; scan = 4918 }
+few_components = record { change = 4901; update = 490128; update_if = 490176; whole_scan = 4942; scan = 4915 }
 
 -- the numbers of 64 components and 4 ports
 abbrev pub more_components : MostSteps
-more_components = record { change = 14362; update = 4717584; update_if = 4717632; whole_scan = 18978; scan = 14498 }
+more_components = record { change = 14298; update = 4716560; update_if = 4716608; whole_scan = 18914; scan = 14434 }
 
 -- the bounds of the calls in memories of these two sizes are these numbers
 abbrev pub MostStepsInNumbers : Type 0

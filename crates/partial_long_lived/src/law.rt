@@ -23,9 +23,9 @@ pub fn arenas_begin_lines()
     ensures { ArenasBeginLines }
 {}
 
-/// With the usual options a memory of 3 components and 2 ports makes at most 4,904 steps in a change of epoch, 490,176 in
-/// an update, 490,224 in a conditional one, and 4,945 in a scan of all components. With 64 components and 4 ports these are
-/// 14,362, 4,717,584, 4,717,632 and 18,978.
+/// With the usual options a memory of 3 components and 2 ports makes at most 4,901 steps in a change of epoch, 490,128 in
+/// an update, 490,176 in a conditional one, and 4,942 in a scan of all components. With 64 components and 4 ports these are
+/// 14,298, 4,716,560, 4,716,608 and 18,914.
 pub fn most_steps_in_numbers()
     ensures { MostStepsInNumbers }
 {}

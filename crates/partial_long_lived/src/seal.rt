@@ -20,7 +20,7 @@ const PATIENCE: u64 = 64;
 
 /// Seals the components of the port's epoch, or sees that it has ended, and returns whether it has. When another port has
 /// sealed component 0 first, this one looks for a while and leaves the change of epoch to that port: sealing and filling
-/// beside it would make both slower. Then it seals what isn't sealed yet.
+/// beside it would make both slower. Then it adds its own seals.
 pub fn seal_unless_ended(words: &Words, stand: &mut Stand) -> bool
     requires held { IsHeld words.now.table_id words.now.key stand.old }
     requires may { IsIdle stand.old }
@@ -98,7 +98,7 @@ fn sees_the_end(words: &Words, stand: &mut Stand) -> bool
     false
 }
 
-// Seals each component of the port's epoch that isn't sealed. No update takes effect in the epoch from then on.
+// Seals each component of the port's epoch that the port hasn't passed. No update takes effect in the epoch from then on.
 fn seal(words: &Words, stand: &mut Stand)
     requires held { IsHeld words.now.table_id words.now.key stand.old }
     requires may { IsIdle stand.old }
@@ -107,7 +107,7 @@ fn seal(words: &Words, stand: &mut Stand)
     ensures same { HasSamePart stand.old stand.new }
     ensures free { IsIdle stand.new }
     ensures sealed { words.now.key.sizes.m ≤ (port_at stand.new).port.passed }
-    ensures steps { stand.new.seat.steps ≤ stand.old.seat.steps + 2 * words.now.key.sizes.m }
+    ensures steps { stand.new.seat.steps ≤ stand.old.seat.steps + words.now.key.sizes.m }
 {
     let m = stand.shape.sizes.m();
     for _ in stand.passed..m {
@@ -115,7 +115,8 @@ fn seal(words: &Words, stand: &mut Stand)
     }
 }
 
-// Passes the next component: loads its word, and seals it if it isn't sealed.
+// Passes the next component, to which it adds its own seal. It doesn't ask for another port's seal first: a load would bring
+// the word to the processor once more.
 fn pass(words: &Words, stand: &mut Stand)
     requires held { IsHeld words.now.table_id words.now.key stand.old }
     requires may { IsIdle stand.old }
@@ -125,12 +126,9 @@ fn pass(words: &Words, stand: &mut Stand)
     ensures same { HasSamePart stand.old stand.new }
     ensures free { IsIdle stand.new }
     ensures passed { stand.new.passed ≡ stand.old.passed + 1 }
-    ensures steps { stand.new.seat.steps ≤ stand.old.seat.steps + 2 }
+    ensures steps { stand.new.seat.steps ≤ stand.old.seat.steps + 1 }
 {
     let word = (stand.base + u64::from(stand.passed)) as usize;
-    let found = words.load::<Pass>(&mut stand.seat, word);
-    if found < SEAL {
-        words.fetch_add::<Seal>(&mut stand.seat, word, SEAL);
-    }
+    words.fetch_add::<Seal>(&mut stand.seat, word, SEAL);
     stand.passed += 1;
 }

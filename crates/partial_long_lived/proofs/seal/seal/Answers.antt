@@ -26,7 +26,7 @@ loop-preserved c =
       at = ap (λ n. n + 1) w.at ∙ sym p.passed;
       all = w.all;
       within = let low = c.loop-test.true in inl (omega (arith, low));
-      steps = let so_far = w.steps in let two = p.steps in omega (arith, so_far, two);
+      steps = let so_far = w.steps in let one = p.steps in omega (arith, so_far, one);
     }
 
 pub returns-clause-sealed : goal.returns-clause-sealed

@@ -1,4 +1,4 @@
-use Rattle.partial_long_lived.proofs.Common.{◌≡◌, ◌+◌, ◌*◌, ◌≤◌, ◌⊎◌, IsHeld, IsIdle, HasSamePart, Stays}
+use Rattle.partial_long_lived.proofs.Common.{◌≡◌, ◌+◌, ◌≤◌, ◌⊎◌, IsHeld, IsIdle, HasSamePart, Stays}
 use Rattle.partial_long_lived.proofs.seal.seal.Given as goal
 
 abbrev pub invariant-loop : goal.invariant-loop
@@ -10,5 +10,5 @@ invariant-loop l = record {
   at : l.counter ≡ l.stand.passed;
   all : l.m ≡ l.words.key.sizes.m;
   within : (l.counter ≤ l.m) ⊎ (l.counter ≡ l.fn.stand.passed);
-  steps : l.stand.seat.steps + 2 * l.fn.stand.passed ≤ l.fn.stand.seat.steps + 2 * l.counter;
+  steps : l.stand.seat.steps + l.fn.stand.passed ≤ l.fn.stand.seat.steps + l.counter;
 }
