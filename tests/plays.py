@@ -20,13 +20,12 @@ KNOWN = {
     ('partial_table', 'counted.rt'): 'Counts CountsSplit CountsJoin',
     ('partial_memory', 'rule.rt'): 'MachineStep GoesOn PutsOn Looks Deals Gathers',
     ('partial_long_lived', 'rule.rt'): 'Deals Gathers',
-    ('partial_long_lived', 'plays.rt'): 'Look FirstLook StoreEnteringWord LoadCurrent Arrive ReadFirst ReadAgain SeeFirst '
-        'SeeAgain GlanceFirst Glance NoteScan Recall Observe',
+    ('partial_long_lived', 'plays.rt'): 'Look StoreEnteringWord LoadCurrent Arrive See NoteScan Recall Observe',
     ('partial_long_lived', 'machine_plays.rt'):
-        'LoadOn StoreOn LoadZero ExchangeOn AddOn BeginFirst BeginAgain BeginScan ExchangeComponent',
+        'LoadOn StoreOn LoadZero ExchangeOn AddOn Begin BeginScan ExchangeComponent',
     ('partial_long_lived', 'change_plays.rt'):
         'Pass Seal BeginSearch BeginPass Take Give LoadPort Put FindClear SetWord SetLists SetValue FindSetWord FindSetValue '
-        'Find Publish',
+        'Publish',
 }
 # By crate and file, which calls of a table that count nothing stand there.
 UNCOUNTED = {}

@@ -1,12 +1,7 @@
 -- Loads of component words are allowed, and what they show.
-use Rattle.partial_long_lived.proofs.{Common.{ℕ, ◌≡◌, ◌≢◌, ◌+◌, ◌<◌, ◌≤◌, ◌==◌, ◌⊎◌, ◌&&◌, ◌++◌, not, Bool, true, false, if◌then◌else◌, Option, Some, None, IfSome, List, [], ◌∷◌, length, map, take, slice_index, slice_set, refl, sym, ap, subst, ◌∙◌, inl, inr, arith, append-nil, append_assoc, length-append, ⊤, nat_lt, AllByRecursion, eqb_tells, length-map, take-append-le, take_all, Applied, Opening, Note, stamp_of, value_of, Fits, IsTrueOf, LegalNotes, Noted, place_of, seen_by, AreCollects, LegalNotes-push, first_free, put, Site, Plan, base, component_words, seal, unsealed, carried_after, stamp_after, history_of, opened_after, public_entry, public_log, Port, Stands, Beside, IsStanding, site_now, LawfulMemory, having_seen, noting, public_of, IsBesideAs, Reckons, Reckoning, components_name_records, epochs_are_histories, seen_records_stay, unsealed_is_present, history_took, at_of, put_other, put_same, held_history, history_grows, among, history_longer, About, Began, Found, BeganInTime, IsFinal, IsSeat, SeatedPort, plan_of, seen_in, BeginsWith, IsSeatKnown, Recalls, SeatSees, Wish, found_by, noted_by, place_seen, stamp_seen, MayNoteScan, NotesScan, noted_together, Expects, Finds, Glances, Reads, epochs_continue, stamp_public, value_public, Call, Answer, Contention, contention_by, every_step_stays_lawful, IsSight, Search, IsSearching}, Begins.{began_by, seen_few}, Control.{load_same, stands_since, led_to, reckoned_after, unnoted}, Kept.{GoesOn, Moved, begun_grows, final_grows, none_grown, not_grown}, Lists.{cut, same_before}, Seen.legal_begins, Contention.{by_more, by_search}}
+use Rattle.partial_long_lived.proofs.{Common.{ℕ, ◌≡◌, ◌≢◌, ◌+◌, ◌<◌, ◌≤◌, ◌==◌, ◌⊎◌, ◌&&◌, ◌++◌, not, Bool, true, false, if◌then◌else◌, Option, Some, None, IfSome, List, [], ◌∷◌, length, map, take, slice_index, slice_set, refl, sym, ap, subst, ◌∙◌, inl, inr, arith, append-nil, append_assoc, length-append, nat_lt, AllByRecursion, eqb_tells, length-map, take-append-le, take_all, Applied, Opening, Note, stamp_of, value_of, Fits, IsTrueOf, LegalNotes, Noted, place_of, seen_by, AreCollects, LegalNotes-push, first_free, put, Site, Plan, base, component_words, seal, unsealed, carried_after, stamp_after, history_of, opened_after, public_entry, public_log, Port, Stands, Beside, IsStanding, site_now, LawfulMemory, having_seen, noting, public_of, IsBesideAs, Reckons, Reckoning, components_name_records, epochs_are_histories, seen_records_stay, unsealed_is_present, history_took, at_of, put_other, put_same, held_history, history_grows, among, history_longer, About, Began, Found, BeganInTime, IsFinal, IsSeat, SeatedPort, plan_of, seen_in, BeginsWith, IsSeatKnown, Recalls, SeatSees, IsFinding, Wish, found_by, noted_by, place_seen, stamp_seen, MayNoteScan, NotesScan, noted_together, Expects, Finds, Glances, Reads, epochs_continue, stamp_public, value_public, Call, Answer, Contention, contention_by, every_step_stays_lawful, IsSight, Search, IsSearching}, Begins.{began_by, seen_few}, Control.{load_same, stands_since, led_to, reckoned_after, unnoted}, Kept.{GoesOn, Moved, begun_grows, final_grows, none_grown, not_grown}, Lists.{cut, same_before}, Seen.legal_begins, Contention.{by_more, by_search}}
 use Rattle.partial_epochs.specs.EveryStep.{Move as move}
 use Rattle.partial_epochs.proofs.Last.{is_raw, within as arena_within}
-
--- the port wants what the next epoch begins with
-abbrev pub IsFinding : Wish → Type 0
-IsFinding Finds = ⊤
-IsFinding _ = ⊥
 
 -- what a port sees in an epoch no older than its call is no older than the call
 pub begun_place : (b : Beside) (g : Began) (later before : List (List Applied)) (log : List Applied) → BeganInTime b g → b.log ∷ b.before ≡ later ++ log ∷ before → g.epoch ≤ length before →

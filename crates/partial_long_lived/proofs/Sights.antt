@@ -1,5 +1,5 @@
 -- The loads of a call are allowed.
-use Rattle.partial_long_lived.proofs.{Common.{ℕ, ◌≡◌, ◌+◌, ◌<◌, Bool, List, slice_index, slice_set, refl, sym, ap, subst, ◌∙◌, arith, Me, Allows, Noted, Plan, base, Port, Stands, Beside, site_now, LawfulMemory, Reckons, Reckoning, About, IsRuleKept, IsSeat, SeatedPort, one_of, plan_of, IsSeatKnown, IsOne, tells, Recalls, SeatSees, Wish, MayNoteScan, NotesScan, notes_scan, IsSince, FindsSet, eqb_tells, inl, inr}, Control.{by_rest, load_same, moved_quietly}, Kept.{Moved, allowed}, Loads.{IsFinding, moved_note, moved_see, recalled, seat_is}}
+use Rattle.partial_long_lived.proofs.{Common.{IsFinding, ℕ, ◌≡◌, ◌+◌, ◌<◌, Bool, List, slice_index, slice_set, refl, sym, ap, subst, ◌∙◌, arith, Me, Allows, Noted, Plan, base, Port, Stands, Beside, site_now, LawfulMemory, Reckons, Reckoning, About, IsRuleKept, IsSeat, SeatedPort, one_of, plan_of, IsSeatKnown, IsOne, tells, Recalls, SeatSees, Wish, MayNoteScan, NotesScan, notes_scan, IsSince, FindsSet, eqb_tells, inl, inr}, Control.{by_rest, load_same, moved_quietly}, Kept.{Moved, allowed}, Loads.{moved_note, moved_see, recalled, seat_is}}
 
 -- nothing has changed
 pub nothing_moved : (a : About) (words words' : List ℕ) (ports : ℕ → Port) (notes : ℕ → List Noted) (b : Beside) (reckoned : Reckoning) (w : LawfulMemory (plan_of a) words ports b notes) →

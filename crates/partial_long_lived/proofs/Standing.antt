@@ -1,5 +1,5 @@
 -- The seat of a port in a call, from step to step.
-use Rattle.partial_long_lived.proofs.{Common.{ℕ, ◌≡◌, ◌+◌, ◌-◌, ◌*◌, ◌<◌, ◌≤◌, ◌⊎◌, Bool, None, IfSome, List, sym, ap, subst, ◌∙◌, arith, TableId, Me, Allows, Site, base, packed, span, whole, IsEpochPlan, below_whole, SeatSees, Wish, component_at, sees, HaveSlots, Stands, About, Shape, Stand, IsRuleKept, SeatedPort, one_of, plan_of, SeatGoes, IsOne, tells, IsHeld, port_at, IsShapeOf}, Loads.IsFinding, Sights.may_see}
+use Rattle.partial_long_lived.proofs.{Common.{IsFinding, ℕ, ◌≡◌, ◌+◌, ◌-◌, ◌*◌, ◌<◌, ◌≤◌, ◌⊎◌, Bool, None, IfSome, List, sym, ap, subst, ◌∙◌, arith, TableId, Me, Allows, Site, base, packed, span, whole, IsEpochPlan, below_whole, SeatSees, Wish, component_at, sees, HaveSlots, Stands, About, Shape, Stand, IsRuleKept, SeatedPort, one_of, plan_of, SeatGoes, IsOne, tells, IsHeld, port_at, IsShapeOf}, Sights.may_see}
 use Rattle.std.proofs.Math.Nat.{mul-le-mul_right}
 use Rattle.partial_long_lived.specs.Inner.Calls as Calls
 use Rattle.partial_long_lived.proofs.Control as Control

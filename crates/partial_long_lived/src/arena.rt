@@ -1,16 +1,15 @@
 //! Loads in the arena where a port stands.
 
-ghost use Rattle.std.specs.Prelude.{◌≡◌, ◌+◌, ◌<◌, ◌≤◌, true, false};
+ghost use Rattle.std.specs.Prelude.{◌≡◌, ◌+◌, ◌<◌, ◌≤◌};
 ghost use Rattle.partial_epochs.specs.Layout.{whole};
 ghost use Rattle.partial_epochs.specs.Notes.{public_of};
 ghost use Rattle.partial_epochs.specs.Ports.Entering.{Stands};
 ghost use Rattle.partial_long_lived.specs.Rule.{plan_of};
 ghost use Rattle.partial_long_lived.specs.Inner.Held.{IsHeld, port_at};
-ghost use Rattle.partial_long_lived.specs.Inner.Calls.{HasLoadedRecord, HasValue, IsIdle, StaysAt};
-ghost use Rattle.partial_long_lived.specs.Inner.Loads.{Recalls, SeatSees};
-ghost use Rattle.partial_long_lived.specs.Inner.Loads.Wish.{Reads};
+ghost use Rattle.partial_long_lived.specs.Inner.Calls.{HasLoadedRecord, HasValue, StaysAt};
+ghost use Rattle.partial_long_lived.specs.Inner.Loads.{IsFinding, Recalls, SeatSees};
 
-use crate::plays::{ReadAgain, ReadFirst, Recall};
+use crate::plays::{Recall, See, When, Wishes};
 use crate::rule::Words;
 use crate::stand::Stand;
 use partial_words::value_word;
@@ -21,35 +20,22 @@ pub const SEAL: u64 = 1 << 56;
 /// Each word of an arena is below this number. A public stamp is an epoch times it, and the reference of a record.
 pub const STAMPS: u64 = 1 << 23;
 
-/// Loads the word of component `component` as the first step of a read. `base` is where the port's arena begins: a caller
-/// who makes several loads takes it from the port once, since after an atomic load a compiler takes it from there anew.
+/// Loads the word of component `component` with the wish `G`. `base` is where the port's arena begins: a caller who makes
+/// several loads takes it from the port once, since after an atomic load a compiler takes it from there anew.
 #[inline(always)]
-pub fn read_first(words: &Words, stand: &mut Stand, base: u64, component: u32) -> u64
+pub fn see<F: When, G: Wishes>(words: &Words, stand: &mut Stand, base: u64, component: u32) -> u64
     requires held { IsHeld words.now.table_id words.now.key stand.old }
     requires base { base ≡ stand.old.base }
-    requires idle { IsIdle stand.old }
+    requires stands { (port_at stand.old).port.control.entering ≡ Stands }
     requires inside { component < words.now.key.sizes.m }
+    requires passed { IsFinding G.wish → component < (port_at stand.old).port.passed }
     ensures held { IsHeld words.now.table_id words.now.key stand.new }
     ensures kept { StaysAt stand.old stand.new }
-    ensures sees { SeatSees true Reads component (port_at stand.old) result (port_at stand.new) }
+    ensures sees { SeatSees F.first G.wish component (port_at stand.old) result (port_at stand.new) }
     ensures steps { stand.new.seat.steps ≤ stand.old.seat.steps + 1 }
 {
     let word = base + u64::from(component);
-    words.load::<ReadFirst>(&mut stand.seat, word as usize)
-}
-
-/// Loads it in an epoch that was the current one during the read.
-pub fn read_again(words: &Words, stand: &mut Stand, component: u32) -> u64
-    requires held { IsHeld words.now.table_id words.now.key stand.old }
-    requires idle { IsIdle stand.old }
-    requires inside { component < words.now.key.sizes.m }
-    ensures held { IsHeld words.now.table_id words.now.key stand.new }
-    ensures kept { StaysAt stand.old stand.new }
-    ensures sees { SeatSees false Reads component (port_at stand.old) result (port_at stand.new) }
-    ensures steps { stand.new.seat.steps ≤ stand.old.seat.steps + 1 }
-{
-    let word = stand.base + u64::from(component);
-    words.load::<ReadAgain>(&mut stand.seat, word as usize)
+    words.load::<See<F, G>>(&mut stand.seat, word as usize)
 }
 
 /// Loads a word that is final for the port.

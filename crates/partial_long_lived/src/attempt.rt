@@ -16,7 +16,8 @@ ghost use Rattle.partial_long_lived.specs.Inner.Updates.{UpdateAttempted, Exchan
 
 use crate::arena::SEAL;
 use crate::lines::{ArenaLines, Further};
-use crate::machine_plays::{BeginAgain, BeginFirst, ExchangeComponent, Moment};
+use crate::machine_plays::{Begin, ExchangeComponent, Moment};
+use crate::plays::When;
 use crate::rule::Words;
 use crate::stand::Stand;
 use partial_core::{Change, Core};
@@ -65,11 +66,11 @@ impl Attempted {
 
 /// Makes an update of a port that is not spent, in the port's epoch. Returns how it ended, with stamps of the epoch's own,
 /// and says whether the port is spent then; or finds the component sealed. Then nothing was applied, and the port is spent.
-/// `first` says that the first step of the update is the first one of its call.
+/// `F` says whether the first step of the update is the first one of its call.
 ///
 /// Never inlined.
 #[inline(never)]
-pub fn attempt(
+pub fn attempt<F: When>(
     words: &Words,
     stand: &mut Stand,
     core: &mut Core,
@@ -77,7 +78,6 @@ pub fn attempt(
     value: u64,
     spent: &mut bool,
     expected: Option<u64>,
-    first: bool,
 ) -> Attempted
     requires held { IsHeld words.now.table_id words.now.key stand.old }
     requires idle { IsIdle stand.old }
@@ -86,20 +86,20 @@ pub fn attempt(
     requires expects { ExpectsOne (port_at stand.old) (asked_change component expected value) }
     ensures held { IsHeld words.now.table_id words.now.key stand.new }
     ensures attempted { IfSome (exchanged_in result) (λ r.
-        UpdateAttempted first (asked_change component expected value) r stand.old stand.new) }
-    ensures sealed { IfNone (exchanged_in result) (NotesNothing first stand.old stand.new) }
+        UpdateAttempted F.first (asked_change component expected value) r stand.old stand.new) }
+    ensures sealed { IfNone (exchanged_in result) (NotesNothing F.first stand.old stand.new) }
     ensures met { IfNone (exchanged_in result) (FoundSealed stand.old stand.new) }
     ensures rests { IsOwnMachine (port_at stand.new) core.new }
     ensures spare { IfSome (exchanged_in result) (λ _. spent.new ≡ false → MayCall (port_at stand.new) core.new) }
     ensures over { IfSome (exchanged_in result) (λ _. spent.new ≡ (port_at stand.new).port.over) }
     ensures steps { stand.new.seat.steps ≤ stand.old.seat.steps + most_of_update words.now.key.sizes }
 {
-    attempt_as::<Further>(words, stand, core, component, value, spent, expected, first)
+    attempt_as::<Further, F>(words, stand, core, component, value, spent, expected)
 }
 
 /// The same, in line, as a call of the kind `C`.
 #[inline(always)]
-pub fn attempt_as<C>(
+pub fn attempt_as<C, F: When>(
     words: &Words,
     stand: &mut Stand,
     core: &mut Core,
@@ -107,7 +107,6 @@ pub fn attempt_as<C>(
     value: u64,
     spent: &mut bool,
     expected: Option<u64>,
-    first: bool,
 ) -> Attempted
     requires held { IsHeld words.now.table_id words.now.key stand.old }
     requires idle { IsIdle stand.old }
@@ -116,8 +115,8 @@ pub fn attempt_as<C>(
     requires expects { ExpectsOne (port_at stand.old) (asked_change component expected value) }
     ensures held { IsHeld words.now.table_id words.now.key stand.new }
     ensures attempted { IfSome (exchanged_in result) (λ r.
-        UpdateAttempted first (asked_change component expected value) r stand.old stand.new) }
-    ensures sealed { IfNone (exchanged_in result) (NotesNothing first stand.old stand.new) }
+        UpdateAttempted F.first (asked_change component expected value) r stand.old stand.new) }
+    ensures sealed { IfNone (exchanged_in result) (NotesNothing F.first stand.old stand.new) }
     ensures met { IfNone (exchanged_in result) (FoundSealed stand.old stand.new) }
     ensures rests { IsOwnMachine (port_at stand.new) core.new }
     ensures spare { IfSome (exchanged_in result) (λ _. spent.new ≡ false → MayCall (port_at stand.new) core.new) }
@@ -129,7 +128,7 @@ pub fn attempt_as<C>(
         expected,
         value,
     };
-    let old = begin::<Brand>(words, stand, core, change, first);
+    let old = begin::<F, Brand>(words, stand, core, change);
     if old >= SEAL {
         return Attempted::Sealed;
     }
@@ -149,30 +148,20 @@ pub fn attempt_as<C>(
 }
 
 // Makes the first step of an update in the port's epoch, the load of its component word, and returns the word. `G` is the
-// machine that begins the update, unless the component is sealed. `first` says that the step is the first one of the call.
+// machine that begins the update, unless the component is sealed. `F` says whether the step is the first one of the call.
 #[inline(always)]
-fn begin<G: Moment>(
-    words: &Words,
-    stand: &mut Stand,
-    core: &Core,
-    change: Change,
-    first: bool,
-) -> u64
+fn begin<F: When, G: Moment>(words: &Words, stand: &mut Stand, core: &Core, change: Change) -> u64
     requires held { IsHeld words.now.table_id words.now.key stand.old }
     requires begins { MayBegin G.core (port_at stand.old) }
     requires moment { G.core ≡ at_stage core.now (UpdateBegun change) }
     requires inside { change.component < words.now.key.sizes.m }
     ensures held { IsHeld words.now.table_id words.now.key stand.new }
     ensures kept { StaysAt stand.old stand.new }
-    ensures begun { SeatBegins first G.core change.component (port_at stand.old) result (port_at stand.new) }
+    ensures begun { SeatBegins F.first G.core change.component (port_at stand.old) result (port_at stand.new) }
     ensures steps { stand.new.seat.steps ≤ stand.old.seat.steps + 1 }
 {
     let word = stand.base + u64::from(change.component);
-    if first {
-        words.load::<BeginFirst<G>>(&mut stand.seat, word as usize)
-    } else {
-        words.load::<BeginAgain<G>>(&mut stand.seat, word as usize)
-    }
+    words.load::<Begin<F, G>>(&mut stand.seat, word as usize)
 }
 
 // A record that an update has written, whose exchange is due: its reference, and the word after those that the port has

@@ -4,14 +4,15 @@ ghost use Rattle.std.specs.Prelude.{◌≡◌, ◌+◌, ◌*◌, ◌<◌, ◌≤
 ghost use Rattle.partial_long_lived.specs.Bounds.{claim_steps, fill_steps, most_of_change, seal_steps};
 ghost use Rattle.partial_words.specs.Layout.{first_free};
 ghost use Rattle.partial_long_lived.specs.Inner.Held.{IsHeld, port_at};
-ghost use Rattle.partial_long_lived.specs.Inner.Calls.{IsIdle, StaysAt, LookFound, MayLook};
+ghost use Rattle.partial_long_lived.specs.Inner.Calls.{IsIdle};
 ghost use Rattle.partial_long_lived.specs.Inner.Changing.{EpochChanged, IsCause, IsPast, HasSamePart, NotChanged, Owns, Stays, HasSetWords};
 
 use crate::change_plays::Publish;
 use crate::claim::{claim, give};
-use crate::enter::{ARENAS, enter, look, look_first};
+use crate::enter::{ARENAS, enter, look};
 use crate::error::Refused;
 use crate::fill::fill;
+use crate::plays::When;
 use crate::rule::Words;
 use crate::seal::seal_unless_ended;
 use crate::stand::Stand;
@@ -19,43 +20,27 @@ use crate::stand::Stand;
 /// The number of each epoch is below this one.
 const EPOCHS: u64 = 2_199_023_255_552;
 
-/// Changes the epoch, or enters the one to which another port has changed it. `first` says that the look with which it
-/// begins is the first step of its call.
+/// Changes the epoch, or enters the one to which another port has changed it. `F` says whether the look with which it begins
+/// is the first step of its call.
 ///
 /// # Errors
 /// [`Refused::EpochsSpent`] when the port's epoch is the last one. The port stands where it stood, and owns no arena.
-pub fn change(words: &Words, stand: &mut Stand, first: bool) -> Result<(), Refused>
+pub fn change<F: When>(words: &Words, stand: &mut Stand) -> Result<(), Refused>
     requires held { IsHeld words.now.table_id words.now.key stand.old }
     requires may { IsIdle stand.old }
     ensures held { IsHeld words.now.table_id words.now.key stand.new }
-    ensures changed { IfOk result (λ _. EpochChanged first stand.old stand.new) }
-    ensures refused { IfErr result (λ _. NotChanged first stand.old stand.new) }
+    ensures changed { IfOk result (λ _. EpochChanged F.first stand.old stand.new) }
+    ensures refused { IfErr result (λ _. NotChanged F.first stand.old stand.new) }
     ensures cause { IfErr result (IsCause stand.new) }
     ensures steps { stand.new.seat.steps ≤ stand.old.seat.steps + most_of_change words.now.key }
 {
-    if !look_as(words, stand, first) {
+    if !look::<F>(words, stand) {
         enter(words, stand);
         return Ok(());
     }
     open_next(words, stand)?;
     enter(words, stand);
     Ok(())
-}
-
-// Looks, as the first step of a call or as another one.
-fn look_as(words: &Words, stand: &mut Stand, first: bool) -> bool
-    requires held { IsHeld words.now.table_id words.now.key stand.old }
-    requires may { MayLook stand.old }
-    ensures held { IsHeld words.now.table_id words.now.key stand.new }
-    ensures kept { StaysAt stand.old stand.new }
-    ensures looked { LookFound first stand.old result stand.new }
-    ensures steps { stand.new.seat.steps ≤ stand.old.seat.steps + 1 }
-{
-    if first {
-        look_first(words, stand)
-    } else {
-        look(words, stand)
-    }
 }
 
 // Seals the components of the port's epoch and opens the next one, unless another port does so first.

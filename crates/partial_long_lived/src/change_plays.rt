@@ -161,17 +161,6 @@ impl<G: Wanted> Play<(), View> for FindSetValue<G> {
     ghost then = { λ _. tells (FindsSet G.value SetsValue) };
 }
 
-/// The load of a component word that is sealed, for what the next epoch begins with.
-pub struct Find;
-
-impl Play<(), View> for Find {
-    ghost use Rattle.std.specs.Prelude.{false};
-    ghost use Rattle.partial_long_lived.specs.Inner.Loads.{sees};
-    ghost use Rattle.partial_long_lived.specs.Inner.Loads.Wish.{Finds};
-
-    ghost then = { λ s. sees false Finds s.word };
-}
-
 /// The exchange of the current word.
 pub struct Publish;
 

@@ -7,6 +7,7 @@ ghost use Rattle.partial_long_lived.specs.Inner.Changing.{HasCleared, HasLoadedP
 use crate::change_plays::{LoadPort, Put};
 use crate::claim::Claimed;
 use crate::enter::{ARENAS, ENTERING_BIT, look};
+use crate::plays::Later;
 use crate::rule::Words;
 use crate::stand::Stand;
 
@@ -21,7 +22,7 @@ pub fn clear(words: &Words, stand: &mut Stand, arena: u32) -> Claimed
     ensures meets { MeetsBy result arena stand.old stand.new }
     ensures steps { stand.new.seat.steps ≤ stand.old.seat.steps + (1 + 3 * words.now.key.ports) }
 {
-    if !look(words, stand) {
+    if !look::<Later>(words, stand) {
         return Claimed::Ended;
     }
     for port in 0..stand.shape.ports {
@@ -54,7 +55,7 @@ fn clear_port(words: &Words, stand: &mut Stand, arena: u32, port: u32) -> Claime
             Claimed::Clean(arena)
         };
     }
-    if look(words, stand) {
+    if look::<Later>(words, stand) {
         put_port(words, stand, arena, port, found)
     } else {
         Claimed::Ended

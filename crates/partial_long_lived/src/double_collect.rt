@@ -14,9 +14,9 @@ ghost use Rattle.partial_long_lived.specs.Inner.Stamped.{MadeNamed, ScannedNamed
 ghost use Rattle.partial_long_lived.specs.Inner.Loads.{SeatSees};
 ghost use Rattle.partial_long_lived.specs.Inner.Loads.Wish.{Glances};
 
-use crate::arena::{SEAL, recall};
+use crate::arena::{SEAL, recall, see};
 use crate::enter::look;
-use crate::plays::{Glance, GlanceFirst, NoteScan, Together};
+use crate::plays::{AtFirst, Later, NoteScan, ToGlance, Together};
 use crate::rule::Words;
 use crate::stand::Stand;
 use partial_words::value_word;
@@ -107,47 +107,15 @@ fn begin(words: &Words, stand: &mut Stand, base: u64, component: u32) -> Option<
     ensures notes { (port_at stand.new).notes ≡ (port_at stand.old).notes }
     ensures steps { stand.new.seat.steps ≤ stand.old.seat.steps + 2 }
 {
-    let found = glance_first(words, stand, base, component);
+    let found = see::<AtFirst, ToGlance>(words, stand, base, component);
     if found < SEAL {
         return Some(found);
     }
-    if look(words, stand) {
+    if look::<Later>(words, stand) {
         Some(found)
     } else {
         None
     }
-}
-
-// Loads the word of a component as the first step of the scan.
-#[inline(always)]
-fn glance_first(words: &Words, stand: &mut Stand, base: u64, component: u32) -> u64
-    requires held { IsHeld words.now.table_id words.now.key stand.old }
-    requires base { base ≡ stand.old.base }
-    requires idle { IsIdle stand.old }
-    requires inside { component < words.now.key.sizes.m }
-    ensures held { IsHeld words.now.table_id words.now.key stand.new }
-    ensures kept { StaysAt stand.old stand.new }
-    ensures sees { SeatSees true Glances component (port_at stand.old) result (port_at stand.new) }
-    ensures steps { stand.new.seat.steps ≤ stand.old.seat.steps + 1 }
-{
-    let word = base + u64::from(component);
-    words.load::<GlanceFirst>(&mut stand.seat, word as usize)
-}
-
-/// Loads the word of a component. `base` is where the port's arena begins.
-#[inline(always)]
-pub fn glance(words: &Words, stand: &mut Stand, base: u64, component: u32) -> u64
-    requires held { IsHeld words.now.table_id words.now.key stand.old }
-    requires base { base ≡ stand.old.base }
-    requires idle { IsIdle stand.old }
-    requires inside { component < words.now.key.sizes.m }
-    ensures held { IsHeld words.now.table_id words.now.key stand.new }
-    ensures kept { StaysAt stand.old stand.new }
-    ensures sees { SeatSees false Glances component (port_at stand.old) result (port_at stand.new) }
-    ensures steps { stand.new.seat.steps ≤ stand.old.seat.steps + 1 }
-{
-    let word = base + u64::from(component);
-    words.load::<Glance>(&mut stand.seat, word as usize)
 }
 
 // Collects the words of all positions but the first one, which is kept already.
@@ -203,7 +171,7 @@ fn collect_some(
     ensures steps { stand.new.seat.steps ≤ stand.old.seat.steps + many }
 {
     for k in 0..many {
-        kept[from + k] = glance(words, stand, base, which[from + k]);
+        kept[from + k] = see::<Later, ToGlance>(words, stand, base, which[from + k]);
     }
 }
 
@@ -297,7 +265,7 @@ fn collects_some_again(
     ensures steps { stand.new.seat.steps ≤ stand.old.seat.steps + many }
 {
     for k in 0..many {
-        if glance(words, stand, base, which[from + k]) != kept[from + k] {
+        if see::<Later, ToGlance>(words, stand, base, which[from + k]) != kept[from + k] {
             return false;
         }
     }

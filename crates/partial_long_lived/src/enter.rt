@@ -1,11 +1,11 @@
 //! A look at the current epoch, and how a port enters it.
 
-ghost use Rattle.std.specs.Prelude.{◌≡◌, ◌+◌, ◌<◌, ◌≤◌, true, false};
+ghost use Rattle.std.specs.Prelude.{◌≡◌, ◌+◌, ◌<◌, ◌≤◌};
 ghost use Rattle.partial_epochs.specs.Layout.{packed};
 ghost use Rattle.partial_long_lived.specs.Inner.Held.{IsHeld};
 ghost use Rattle.partial_long_lived.specs.Inner.Calls.{StaysAt, LookFound, MayLook, EpochEntered, MayEnter};
 
-use crate::plays::{Arrive, FirstLook, LoadCurrent, Look, StoreEnteringWord};
+use crate::plays::{Arrive, LoadCurrent, Look, StoreEnteringWord, When};
 use crate::rule::Words;
 use crate::stand::Stand;
 
@@ -27,28 +27,15 @@ impl Stand {
 }
 
 /// Loads the current word, and says whether the port's epoch is the current one. If not, that epoch has ended.
-pub fn look(words: &Words, stand: &mut Stand) -> bool
+pub fn look<F: When>(words: &Words, stand: &mut Stand) -> bool
     requires held { IsHeld words.now.table_id words.now.key stand.old }
     requires may { MayLook stand.old }
     ensures held { IsHeld words.now.table_id words.now.key stand.new }
     ensures kept { StaysAt stand.old stand.new }
-    ensures looked { LookFound false stand.old result stand.new }
+    ensures looked { LookFound F.first stand.old result stand.new }
     ensures steps { stand.new.seat.steps ≤ stand.old.seat.steps + 1 }
 {
-    let found = words.load::<Look>(&mut stand.seat, 0);
-    found == stand.packed()
-}
-
-/// The same as the first step of a call.
-pub fn look_first(words: &Words, stand: &mut Stand) -> bool
-    requires held { IsHeld words.now.table_id words.now.key stand.old }
-    requires may { MayLook stand.old }
-    ensures held { IsHeld words.now.table_id words.now.key stand.new }
-    ensures kept { StaysAt stand.old stand.new }
-    ensures looked { LookFound true stand.old result stand.new }
-    ensures steps { stand.new.seat.steps ≤ stand.old.seat.steps + 1 }
-{
-    let found = words.load::<FirstLook>(&mut stand.seat, 0);
+    let found = words.load::<Look<F>>(&mut stand.seat, 0);
     found == stand.packed()
 }
 

@@ -6,8 +6,8 @@ ghost use Rattle.partial_long_lived.specs.Inner.Held.{IsHeld, port_at};
 ghost use Rattle.partial_long_lived.specs.Inner.Calls.{HasLoadedRecord};
 ghost use Rattle.partial_long_lived.specs.Inner.Changing.{HasControl, FoundStamp, FoundValue, HasFound, HasPassed, Stays};
 
-use crate::arena::{SEAL, load_value, public_stamp};
-use crate::change_plays::Find;
+use crate::arena::{SEAL, load_value, public_stamp, see};
+use crate::plays::{Later, ToFind};
 use crate::rule::Words;
 use crate::stand::Stand;
 
@@ -62,6 +62,6 @@ fn find(words: &Words, stand: &mut Stand, component: u32) -> u64
     ensures loaded { HasLoadedRecord stand.new component result }
     ensures steps { stand.new.seat.steps ≤ stand.old.seat.steps + 1 }
 {
-    let word = (stand.base + u64::from(component)) as usize;
-    words.load::<Find>(&mut stand.seat, word) % SEAL
+    let base = stand.base;
+    see::<Later, ToFind>(words, stand, base, component) % SEAL
 }

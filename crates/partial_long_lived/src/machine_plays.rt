@@ -1,5 +1,6 @@
 //! What the atomic steps of a port's machine show its port.
 
+use crate::plays::When;
 use crate::rule::View;
 use partial_table::Play;
 use std::marker::{Brand, PhantomData};
@@ -66,28 +67,16 @@ impl Moment for Brand {
     ghost core = { fresh (record { m = 1; slots = 1; lists = 0; pool = 3 }) 0 };
 }
 
-/// The load by which the machine `G` of an update begins, as the first step of a call.
-pub struct BeginFirst<G> {
+/// The load by which the machine `G` of an update begins.
+pub struct Begin<F, G> {
+    when: PhantomData<F>,
     moment: PhantomData<G>,
 }
 
-impl<G: Moment> Play<(), View> for BeginFirst<G> {
-    ghost use Rattle.std.specs.Prelude.{true};
+impl<F: When, G: Moment> Play<(), View> for Begin<F, G> {
     ghost use Rattle.partial_long_lived.specs.Inner.Machine.{begins};
 
-    ghost then = { λ s. begins true G.core s.word };
-}
-
-/// The same in a later epoch.
-pub struct BeginAgain<G> {
-    moment: PhantomData<G>,
-}
-
-impl<G: Moment> Play<(), View> for BeginAgain<G> {
-    ghost use Rattle.std.specs.Prelude.{false};
-    ghost use Rattle.partial_long_lived.specs.Inner.Machine.{begins};
-
-    ghost then = { λ s. begins false G.core s.word };
+    ghost then = { λ s. begins F.first G.core s.word };
 }
 
 /// The first step of the machine `G` of a scan, the claim of its announcement.

@@ -4,26 +4,41 @@ use crate::rule::View;
 use partial_table::Play;
 use std::marker::{Brand, PhantomData};
 
-/// A load of the current word.
-pub struct Look;
+/// Whether a step is the first one of its call.
+pub trait When {
+    ghost use Rattle.std.specs.Prelude.{Bool};
 
-impl Play<(), View> for Look {
-    ghost use Rattle.std.specs.Prelude.{false};
-    ghost use Rattle.partial_long_lived.specs.Inner.Steps.{tells};
-    ghost use Rattle.partial_long_lived.specs.Inner.Moves.{SeatLooks};
-
-    ghost then = { λ _. tells (SeatLooks false) };
+    ghost first: { Bool };
 }
 
-/// A load of the current word that is the first step of a call.
-pub struct FirstLook;
+/// The first step of a call.
+pub struct AtFirst;
 
-impl Play<(), View> for FirstLook {
+impl When for AtFirst {
     ghost use Rattle.std.specs.Prelude.{true};
+
+    ghost first = { true };
+}
+
+/// A further step of a call.
+pub struct Later;
+
+impl When for Later {
+    ghost use Rattle.std.specs.Prelude.{false};
+
+    ghost first = { false };
+}
+
+/// A load of the current word.
+pub struct Look<F> {
+    when: PhantomData<F>,
+}
+
+impl<F: When> Play<(), View> for Look<F> {
     ghost use Rattle.partial_long_lived.specs.Inner.Steps.{tells};
     ghost use Rattle.partial_long_lived.specs.Inner.Moves.{SeatLooks};
 
-    ghost then = { λ _. tells (SeatLooks true) };
+    ghost then = { λ _. tells (SeatLooks F.first) };
 }
 
 /// The store of the entering word.
@@ -57,85 +72,58 @@ impl Play<(), View> for Arrive {
     ghost then = { λ s. tells (SeatArrives (unpacked s.second)) };
 }
 
-/// The load of a component word that is the first step of a read.
-pub struct ReadFirst;
-
-impl Play<(), View> for ReadFirst {
-    ghost use Rattle.std.specs.Prelude.{true};
-    ghost use Rattle.partial_long_lived.specs.Inner.Loads.{sees};
-    ghost use Rattle.partial_long_lived.specs.Inner.Loads.Wish.{Reads};
-
-    ghost then = { λ s. sees true Reads s.word };
-}
-
-/// The load of a component word by which a read goes on, in an epoch that was the current one during its call.
-pub struct ReadAgain;
-
-impl Play<(), View> for ReadAgain {
-    ghost use Rattle.std.specs.Prelude.{false};
-    ghost use Rattle.partial_long_lived.specs.Inner.Loads.{sees};
-    ghost use Rattle.partial_long_lived.specs.Inner.Loads.Wish.{Reads};
-
-    ghost then = { λ s. sees false Reads s.word };
-}
-
-/// What a call wants of the component words that it loads. Each call picks its own.
+/// What a call wants of the component words that it loads.
 pub trait Wishes {
     ghost use Rattle.partial_long_lived.specs.Inner.Loads.{Wish};
 
     ghost wish: { Wish };
 }
 
+/// A read wants the value.
+pub struct ToRead;
+
+impl Wishes for ToRead {
+    ghost use Rattle.partial_long_lived.specs.Inner.Loads.Wish.{Reads};
+
+    ghost wish = { Reads };
+}
+
+/// A double collect compares the word with another load of it.
+pub struct ToGlance;
+
+impl Wishes for ToGlance {
+    ghost use Rattle.partial_long_lived.specs.Inner.Loads.Wish.{Glances};
+
+    ghost wish = { Glances };
+}
+
+/// A change of epoch finds what the next epoch begins with, of a component that is sealed.
+pub struct ToFind;
+
+impl Wishes for ToFind {
+    ghost use Rattle.partial_long_lived.specs.Inner.Loads.Wish.{Finds};
+
+    ghost wish = { Finds };
+}
+
+/// A conditional update picks its own.
 impl Wishes for Brand {
     ghost use Rattle.partial_long_lived.specs.Inner.Loads.Wish.{Glances};
 
     ghost wish = { Glances };
 }
 
-/// The load of a component word with the wish `G`, as the first step of a call.
-pub struct SeeFirst<G> {
+/// The load of a component word with the wish `G`. Unless it is the first step of a call, the port's epoch was the current
+/// one during the call.
+pub struct See<F, G> {
+    when: PhantomData<F>,
     wish: PhantomData<G>,
 }
 
-impl<G: Wishes> Play<(), View> for SeeFirst<G> {
-    ghost use Rattle.std.specs.Prelude.{true};
+impl<F: When, G: Wishes> Play<(), View> for See<F, G> {
     ghost use Rattle.partial_long_lived.specs.Inner.Loads.{sees};
 
-    ghost then = { λ s. sees true G.wish s.word };
-}
-
-/// The same in an epoch that was the current one during the call.
-pub struct SeeAgain<G> {
-    wish: PhantomData<G>,
-}
-
-impl<G: Wishes> Play<(), View> for SeeAgain<G> {
-    ghost use Rattle.std.specs.Prelude.{false};
-    ghost use Rattle.partial_long_lived.specs.Inner.Loads.{sees};
-
-    ghost then = { λ s. sees false G.wish s.word };
-}
-
-/// The load of a component word that is the first step of a scan by a double collect.
-pub struct GlanceFirst;
-
-impl Play<(), View> for GlanceFirst {
-    ghost use Rattle.std.specs.Prelude.{true};
-    ghost use Rattle.partial_long_lived.specs.Inner.Loads.{sees};
-    ghost use Rattle.partial_long_lived.specs.Inner.Loads.Wish.{Glances};
-
-    ghost then = { λ s. sees true Glances s.word };
-}
-
-/// A further load of a component word by a double collect.
-pub struct Glance;
-
-impl Play<(), View> for Glance {
-    ghost use Rattle.std.specs.Prelude.{false};
-    ghost use Rattle.partial_long_lived.specs.Inner.Loads.{sees};
-    ghost use Rattle.partial_long_lived.specs.Inner.Loads.Wish.{Glances};
-
-    ghost then = { λ s. sees false Glances s.word };
+    ghost then = { λ s. sees F.first G.wish s.word };
 }
 
 /// What a double collect has found: its components, and how many entries of the port's epoch the port had seen between

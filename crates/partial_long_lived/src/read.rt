@@ -9,8 +9,9 @@ ghost use Rattle.partial_long_lived.specs.Inner.Calls.{HasCome, HasLoadedRecord,
 ghost use Rattle.partial_long_lived.specs.Inner.Late.{HasFoundSeal};
 ghost use Rattle.partial_long_lived.specs.Inner.Rests.{RestsAt};
 
-use crate::arena::{SEAL, load_value, public_stamp, read_again, read_first};
+use crate::arena::{SEAL, load_value, public_stamp, see};
 use crate::enter::{enter, look};
+use crate::plays::{AtFirst, Later, ToRead};
 use crate::rule::Words;
 use crate::stand::Stand;
 use partial_core::Core;
@@ -23,7 +24,7 @@ pub fn settle(words: &Words, stand: &mut Stand)
     ensures settled { EpochSettled stand.old stand.new }
     ensures steps { stand.new.seat.steps ≤ stand.old.seat.steps + 4 }
 {
-    if !look(words, stand) {
+    if !look::<Later>(words, stand) {
         enter(words, stand);
     }
 }
@@ -44,7 +45,7 @@ pub fn read_here(words: &Words, stand: &mut Stand, component: u32) -> Option<(u6
     ensures few { IfNone result (stand.new.seat.steps ≤ stand.old.seat.steps + 1) }
 {
     let base = stand.base;
-    let found = read_first(words, stand, base, component);
+    let found = see::<AtFirst, ToRead>(words, stand, base, component);
     let own = stand.shape.own;
     // The word of an initial record has no seal, and is found by one comparison.
     if found < own {
@@ -112,7 +113,7 @@ pub fn read_late(
     let epoch = stand.epoch;
     settle(words, stand);
     let base = stand.base;
-    let at = read_again(words, stand, component) % SEAL;
+    let at = see::<Later, ToRead>(words, stand, base, component) % SEAL;
     let own = stand.shape.own;
     let (value, stamp) = load_record(words, stand, base, own, component, at);
     if stand.epoch != epoch {

@@ -24,10 +24,11 @@ ghost use Rattle.partial_long_lived.specs.Inner.Under.{IsGoing, ComesTo, MayBegi
 
 use crate::arena::STAMPS;
 use crate::change::change;
-use crate::enter::{enter, look_first};
+use crate::enter::{enter, look};
 use crate::error::Refused;
 use crate::lines::{ArenaLines, LateScan, Scan};
 use crate::machine_plays::{AddOn, BeginScan, Moment};
+use crate::plays::AtFirst;
 use crate::rule::Words;
 use crate::scan_by_change::scan_by_change;
 use crate::shape::Shape;
@@ -50,7 +51,7 @@ fn settle_first(words: &Words, stand: &mut Stand, core: &mut Core)
     ensures spare { (port_at stand.new).port.over ≡ false }
     ensures steps { stand.new.seat.steps ≤ stand.old.seat.steps + 4 }
 {
-    if !look_first(words, stand) {
+    if !look::<AtFirst>(words, stand) {
         enter(words, stand);
         core.clear_marks();
     }
@@ -151,7 +152,7 @@ fn scan_spent(
     ensures unchanged { IfErr result (λ _. into.new ≡ into.old) }
     ensures steps { stand.new.seat.steps ≤ stand.old.seat.steps + (most_of_change words.now.key + most_of_scan words.now.key.sizes (length which.now)) }
 {
-    change(words, stand, true)?;
+    change::<AtFirst>(words, stand)?;
     core.clear_marks();
     Ok(make_scan::<LateScan>(words, stand, core, spent, which, into))
 }

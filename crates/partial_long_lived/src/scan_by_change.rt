@@ -14,7 +14,7 @@ ghost use Rattle.partial_long_lived.specs.Inner.Stamped.{MadeNamed, ScannedNamed
 use crate::change::change;
 use crate::double_collect::{double_collect, load_noting, load_values};
 use crate::error::Refused;
-use crate::plays::Together;
+use crate::plays::{Later, Together};
 use crate::rule::Words;
 use crate::stand::Stand;
 use crate::unchanged::settle_now;
@@ -187,7 +187,7 @@ fn enter_next(words: &Words, stand: &mut Stand) -> Result<(), Refused>
     ensures steps { stand.new.seat.steps ≤ stand.old.seat.steps + (4 + most_of_change words.now.key) }
 {
     settle_now(words, stand);
-    change(words, stand, false)
+    change::<Later>(words, stand)
 }
 
 // Keeps for these positions the words with which their components begin in each epoch.

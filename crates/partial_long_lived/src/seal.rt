@@ -11,6 +11,7 @@ ghost use Rattle.partial_long_lived.specs.Inner.Changing.{HasSamePart, IsPast, R
 use crate::arena::SEAL;
 use crate::change_plays::{Pass, Seal};
 use crate::enter::look;
+use crate::plays::Later;
 use crate::rule::Words;
 use crate::stand::Stand;
 
@@ -91,7 +92,7 @@ fn sees_the_end(words: &Words, stand: &mut Stand) -> bool
     ensures steps { stand.new.seat.steps ≤ stand.old.seat.steps + patience * words.now.key.sizes.m }
 {
     for _ in 0..PATIENCE * u64::from(stand.shape.sizes.m()) {
-        if !look(words, stand) {
+        if !look::<Later>(words, stand) {
             return true;
         }
     }

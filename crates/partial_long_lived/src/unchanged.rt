@@ -7,9 +7,9 @@ ghost use Rattle.partial_long_lived.specs.Inner.DoubleCollect.{HasGlanced};
 ghost use Rattle.partial_long_lived.specs.Inner.Scans.{SettledFirst};
 ghost use Rattle.partial_long_lived.specs.Inner.Unchanged.{HadAnother, HadStamps, HasStamp};
 
-use crate::arena::{SEAL, public_stamp};
-use crate::double_collect::glance;
-use crate::enter::{enter, look_first};
+use crate::arena::{SEAL, public_stamp, see};
+use crate::enter::{enter, look};
+use crate::plays::{AtFirst, Later, ToGlance};
 use crate::rule::Words;
 use crate::stand::Stand;
 
@@ -44,7 +44,7 @@ pub fn settle_now(words: &Words, stand: &mut Stand)
     ensures settled { SettledFirst stand.old stand.new }
     ensures steps { stand.new.seat.steps ≤ stand.old.seat.steps + 4 }
 {
-    if !look_first(words, stand) {
+    if !look::<AtFirst>(words, stand) {
         enter(words, stand);
     }
 }
@@ -62,6 +62,6 @@ fn stamp_now(words: &Words, stand: &mut Stand, component: u32) -> u64
 {
     let base = stand.base;
     let own = stand.shape.own;
-    let found = glance(words, stand, base, component);
+    let found = see::<Later, ToGlance>(words, stand, base, component);
     public_stamp(words, stand, base, own, component, found % SEAL)
 }

@@ -13,6 +13,7 @@ use crate::change::change;
 use crate::ended::Ended;
 use crate::error::Refused;
 use crate::lines::First;
+use crate::plays::{AtFirst, Later, When};
 use crate::rule::Words;
 use crate::stand::Stand;
 use partial_core::Core;
@@ -71,29 +72,28 @@ fn update_apart(
     ensures steps { stand.new.seat.steps ≤ stand.old.seat.steps + 16 * round_steps words.now.key }
 {
     if *spent {
-        return update_late(words, stand, core, component, value, spent, true);
+        return update_late::<AtFirst>(words, stand, core, component, value, spent);
     }
-    let attempted = attempt_as::<First>(words, stand, core, component, value, spent, None, true);
+    let attempted = attempt_as::<First, AtFirst>(words, stand, core, component, value, spent, None);
     if let Some(exchanged) = attempted.exchanged() {
         return Ended::of(Ok(exchanged));
     }
-    update_late(words, stand, core, component, value, spent, false)
+    update_late::<Later>(words, stand, core, component, value, spent)
 }
 
-// Makes an update of a port that is spent in its epoch, from a change of epoch on. `first` says that the first step of that
-// is the first one of the call.
+// Makes an update of a port that is spent in its epoch, from a change of epoch on. `F` says whether the first step of that is
+// the first one of the call.
 //
 // It isn't put in line, so that an update in the port's epoch pays nothing for it.
 #[cold]
 #[inline(never)]
-fn update_late(
+fn update_late<F: When>(
     words: &Words,
     stand: &mut Stand,
     core: &mut Core,
     component: u32,
     value: u64,
     spent: &mut bool,
-    first: bool,
 ) -> Ended
     requires held { IsHeld words.now.table_id words.now.key stand.old }
     requires idle { IsIdle stand.old }
@@ -102,12 +102,12 @@ fn update_late(
     ensures held { IsHeld words.now.table_id words.now.key stand.new }
     ensures rests { RestsAt stand.new core.new spent.new }
     ensures updated { IfOk (ended_as result) (λ r.
-        UpdateEnded first (asked_change component None value) r stand.old stand.new) }
+        UpdateEnded F.first (asked_change component None value) r stand.old stand.new) }
     ensures refused { IfErr (ended_as result) (λ cause.
-        IsLate 16 15 stand.old cause stand.new × CameBy first stand.old stand.new) }
+        IsLate 16 15 stand.old cause stand.new × CameBy F.first stand.old stand.new) }
     ensures steps { stand.new.seat.steps ≤ stand.old.seat.steps + (most_of_change words.now.key + 15 * round_steps words.now.key) }
 {
-    if let Err(cause) = renew(words, stand, core, first) {
+    if let Err(cause) = renew::<F>(words, stand, core) {
         *spent = true;
         return Ended::of(Err(cause));
     }
@@ -148,11 +148,11 @@ fn rounds(
     ensures steps { stand.new.seat.steps ≤ stand.old.seat.steps + times * round_steps words.now.key }
 {
     for _ in 0..times {
-        let attempted = attempt(words, stand, core, component, value, spent, None, false);
+        let attempted = attempt::<Later>(words, stand, core, component, value, spent, None);
         if let Some(exchanged) = attempted.exchanged() {
             return Ok(exchanged);
         }
-        if let Err(cause) = renew(words, stand, core, false) {
+        if let Err(cause) = renew::<Later>(words, stand, core) {
             *spent = true;
             return Err(cause);
         }
@@ -161,11 +161,11 @@ fn rounds(
     Err(Refused::Overtaken)
 }
 
-/// Changes the epoch of a port, whose machine is a new one then. `first` says that its look is the first step of a call.
+/// Changes the epoch of a port, whose machine is a new one then. `F` says whether its look is the first step of a call.
 ///
 /// # Errors
 /// As those of [`change`]: the port stands where it stood, with the machine that it had.
-pub fn renew(words: &Words, stand: &mut Stand, core: &mut Core, first: bool) -> Result<(), Refused>
+pub fn renew<F: When>(words: &Words, stand: &mut Stand, core: &mut Core) -> Result<(), Refused>
     requires held { IsHeld words.now.table_id words.now.key stand.old }
     requires idle { IsIdle stand.old }
     requires rests { IsOwnMachine (port_at stand.old) core.old }
@@ -173,13 +173,13 @@ pub fn renew(words: &Words, stand: &mut Stand, core: &mut Core, first: bool) -> 
     ensures idle { IsIdle stand.new }
     ensures rests { IsOwnMachine (port_at stand.new) core.new }
     ensures spare { IfOk result (λ _. MayCall (port_at stand.new) core.new) }
-    ensures came { CameBy first stand.old stand.new }
+    ensures came { CameBy F.first stand.old stand.new }
     ensures later { IfOk result (λ _. epoch_at stand.old < epoch_at stand.new) }
     ensures fresh { IfOk result (λ _. (port_at stand.new).began.epoch ≤ stand.new.epoch) }
     ensures cause { IfErr result (IsCause stand.new) }
     ensures steps { stand.new.seat.steps ≤ stand.old.seat.steps + most_of_change words.now.key }
 {
-    change(words, stand, first)?;
+    change::<F>(words, stand)?;
     core.clear_marks();
     Ok(())
 }

@@ -13,10 +13,10 @@ ghost use Rattle.partial_long_lived.specs.Inner.Rests.{RestsAt};
 ghost use Rattle.partial_long_lived.specs.Inner.Updates.{CameBy, FoundSealed, IsLate, IsOwnMachine, MayCall, NotesNothing, word_from};
 
 use crate::answers::UpdatedIf;
-use crate::arena::{SEAL, STAMPS, public_stamp};
+use crate::arena::{SEAL, STAMPS, public_stamp, see};
 use crate::attempt::attempt;
 use crate::error::Refused;
-use crate::plays::{SeeAgain, SeeFirst, Wishes};
+use crate::plays::{AtFirst, Later, Wishes};
 use crate::rule::Words;
 use crate::stand::Stand;
 use crate::update::{MOST_CHANGES, renew};
@@ -71,7 +71,7 @@ pub fn update_if(
             *spent = used;
             return Ok(updated);
         }
-        if let Err(cause) = renew(words, stand, core, false) {
+        if let Err(cause) = renew::<Later>(words, stand, core) {
             *spent = true;
             return Err(cause);
         }
@@ -117,7 +117,7 @@ fn round(
         return None;
     }
     let mut used = false;
-    let attempted = attempt(
+    let attempted = attempt::<Later>(
         words,
         stand,
         core,
@@ -125,7 +125,6 @@ fn round(
         asked.value,
         &mut used,
         Some(at),
-        false,
     );
     let Some(exchanged) = attempted.exchanged() else {
         return None;
@@ -146,7 +145,7 @@ fn compare(words: &Words, stand: &mut Stand, asked: Asked, first: bool) -> Compa
     ensures met { result ≡ Sealed → FoundSealed stand.old stand.new }
     ensures steps { stand.new.seat.steps ≤ stand.old.seat.steps + 2 }
 {
-    let found = see::<Brand>(words, stand, asked, first);
+    let found = see_asked::<Brand>(words, stand, asked, first);
     if first && found >= SEAL {
         return Compared::Sealed;
     }
@@ -164,7 +163,7 @@ fn compare(words: &Words, stand: &mut Stand, asked: Asked, first: bool) -> Compa
 // Loads the component's word with the wish `G` to compare its stamp. `first` says that the load is the first step of the
 // call.
 #[inline(always)]
-fn see<G: Wishes>(words: &Words, stand: &mut Stand, asked: Asked, first: bool) -> u64
+fn see_asked<G: Wishes>(words: &Words, stand: &mut Stand, asked: Asked, first: bool) -> u64
     requires held { IsHeld words.now.table_id words.now.key stand.old }
     requires idle { IsIdle stand.old }
     requires inside { asked.component < words.now.key.sizes.m }
@@ -175,11 +174,11 @@ fn see<G: Wishes>(words: &Words, stand: &mut Stand, asked: Asked, first: bool) -
         (port_at stand.old) result (port_at stand.new) }
     ensures steps { stand.new.seat.steps ≤ stand.old.seat.steps + 1 }
 {
-    let word = stand.base + u64::from(asked.component);
+    let base = stand.base;
     if first {
-        words.load::<SeeFirst<G>>(&mut stand.seat, word as usize)
+        see::<AtFirst, G>(words, stand, base, asked.component)
     } else {
-        words.load::<SeeAgain<G>>(&mut stand.seat, word as usize)
+        see::<Later, G>(words, stand, base, asked.component)
     }
 }
 

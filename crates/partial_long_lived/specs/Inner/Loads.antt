@@ -1,5 +1,5 @@
 -- What a load in the arena where a port stands shows it.
-use Rattle.std.specs.Prelude.{ℕ, ◌≡◌, ◌+◌, ◌-◌, ◌<◌, ◌≤◌, ◌==◌, ◌&&◌, ◌++◌, nat_lt, Bool, not, List, [], ◌∷◌, length, take, Option, Some, if◌then◌else◌}
+use Rattle.std.specs.Prelude.{⊤, ℕ, ◌≡◌, ◌+◌, ◌-◌, ◌<◌, ◌≤◌, ◌==◌, ◌&&◌, ◌++◌, nat_lt, Bool, not, List, [], ◌∷◌, length, take, Option, Some, if◌then◌else◌}
 use Rattle.partial_table.specs.Table.{Me}
 use Rattle.partial_model.specs.declared.history.Applied.{Applied}
 use Rattle.partial_model.specs.declared.history.Opening.{Opening}
@@ -24,6 +24,11 @@ pub data Wish : Type 0 where
   Reads : Wish
   Expects : ℕ → ℕ → Wish
   Finds : Wish
+
+-- it is what the next epoch begins with, of a component that has to be sealed
+abbrev pub IsFinding : Wish → Type 0
+IsFinding Finds = ⊤
+IsFinding _ = ⊥
 
 -- the opening of the port's epoch
 abbrev pub opening_of : SeatedPort → Opening

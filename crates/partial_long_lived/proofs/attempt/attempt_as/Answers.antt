@@ -12,7 +12,7 @@ write-written-requires-clause-going g c =
     let r = c.requires in
     let begins = update_begins _ _ _ c.args.core.now (asked_change c.args.component c.args.expected c.args.value) r.held r.idle r.may.rests r.may.over r.inside r.expects in
     let low = c.if-old-ge-SEAL.false in
-    attempt_going _ _ _ r.held r.idle c.args.core.now (asked_change c.args.component c.args.expected c.args.value) begins c.args.first _ c.begin-old.ensures.held c.begin-old.ensures.kept _ c.begin-old.ensures.begun (omega (arith, low))
+    attempt_going _ _ _ r.held r.idle c.args.core.now (asked_change c.args.component c.args.expected c.args.value) begins g.F.When.first _ c.begin-old.ensures.held c.begin-old.ensures.kept _ c.begin-old.ensures.begun (omega (arith, low))
 
 pub returns-then-found-old-clause-sealed : goal.returns-then-found-old-clause-sealed
 returns-then-found-old-clause-sealed g c =
@@ -21,7 +21,7 @@ returns-then-found-old-clause-sealed g c =
     let low = c.if-old-ge-SEAL.false in
     let high = c.if-found-ge-SEAL.true in
     let same = c.if-found-old.true in
-    met_seal _ _ _ r.held r.idle c.args.core.now (asked_change c.args.component c.args.expected c.args.value) begins c.args.first _ c.begin-old.ensures.held c.begin-old.ensures.kept _ c.begin-old.ensures.begun (omega (arith, low))
+    met_seal _ _ _ r.held r.idle c.args.core.now (asked_change c.args.component c.args.expected c.args.value) begins g.F.When.first _ c.begin-old.ensures.held c.begin-old.ensures.kept _ c.begin-old.ensures.begun (omega (arith, low))
     _ c.write-written.ensures.leads c.write-written.result.at c.exchange-found.result (search rules) _ c.exchange-found.ensures.kept c.exchange-found.ensures.exchanged (omega (arith, high)) same
 
 pub returns-then-found-old-clause-met : goal.returns-then-found-old-clause-met
@@ -31,7 +31,7 @@ returns-then-found-old-clause-met g c =
     let low = c.if-old-ge-SEAL.false in
     let high = c.if-found-ge-SEAL.true in
     let same = c.if-found-old.true in
-    met_again _ _ _ r.held r.idle c.args.core.now (asked_change c.args.component c.args.expected c.args.value) begins c.args.first _ c.begin-old.ensures.held c.begin-old.ensures.kept _ c.begin-old.ensures.begun (omega (arith, low))
+    met_again _ _ _ r.held r.idle c.args.core.now (asked_change c.args.component c.args.expected c.args.value) begins g.F.When.first _ c.begin-old.ensures.held c.begin-old.ensures.kept _ c.begin-old.ensures.begun (omega (arith, low))
     _ c.write-written.ensures.leads c.write-written.result.at c.exchange-found.result (search rules) _ c.exchange-found.ensures.kept c.exchange-found.ensures.exchanged (omega (arith, high)) same
 
 pub returns-then-found-old-clause-rests : goal.returns-then-found-old-clause-rests
@@ -39,7 +39,7 @@ returns-then-found-old-clause-rests g c =
     let r = c.requires in
     let begins = update_begins _ _ _ c.args.core.now (asked_change c.args.component c.args.expected c.args.value) r.held r.idle r.may.rests r.may.over r.inside r.expects in
     let low = c.if-old-ge-SEAL.false in
-    attempt_rests _ _ _ r.held r.idle c.args.core.now (asked_change c.args.component c.args.expected c.args.value) begins c.args.first _ c.begin-old.ensures.held c.begin-old.ensures.kept _ c.begin-old.ensures.begun (omega (arith, low))
+    attempt_rests _ _ _ r.held r.idle c.args.core.now (asked_change c.args.component c.args.expected c.args.value) begins g.F.When.first _ c.begin-old.ensures.held c.begin-old.ensures.kept _ c.begin-old.ensures.begun (omega (arith, low))
     _ c.write-written.ensures.leads c.write-written.result.at c.exchange-found.result (search rules) _ c.exchange-found.ensures.kept _ r.may.rests c.write-written.ensures.rests
 
 pub returns-clause-rests : goal.returns-clause-rests
@@ -47,7 +47,7 @@ returns-clause-rests g c =
     let r = c.requires in
     let begins = update_begins _ _ _ c.args.core.now (asked_change c.args.component c.args.expected c.args.value) r.held r.idle r.may.rests r.may.over r.inside r.expects in
     let low = c.if-old-ge-SEAL.false in
-    attempt_rests _ _ _ r.held r.idle c.args.core.now (asked_change c.args.component c.args.expected c.args.value) begins c.args.first _ c.begin-old.ensures.held c.begin-old.ensures.kept _ c.begin-old.ensures.begun (omega (arith, low))
+    attempt_rests _ _ _ r.held r.idle c.args.core.now (asked_change c.args.component c.args.expected c.args.value) begins g.F.When.first _ c.begin-old.ensures.held c.begin-old.ensures.kept _ c.begin-old.ensures.begun (omega (arith, low))
     _ c.write-written.ensures.leads c.write-written.result.at c.exchange-found.result (search rules) _ c.exchange-found.ensures.kept _ r.may.rests c.write-written.ensures.rests
 
 pub returns-clause-attempted : goal.returns-clause-attempted
@@ -59,8 +59,8 @@ returns-clause-attempted g c =
       | else-found-ge-SEAL-via-then-found-ge-SEAL+else-found-old w ↦ inr w.if-found-old.false
       | else-found-ge-SEAL-via-else-found-ge-SEAL w ↦ (let less = w.if-found-ge-SEAL.false in inl (omega (arith, less)))
     ]) in
-    subst (λ q. IfSome q (λ r. UpdateAttempted c.args.first (asked_change c.args.component c.args.expected c.args.value) r c.args.stand.now c.exchange-found.new.stand)) (sym c.ended.ensures)
-    (attempt_ends _ _ _ r.held r.idle c.args.core.now (asked_change c.args.component c.args.expected c.args.value) begins c.args.first _ c.begin-old.ensures.held c.begin-old.ensures.kept _ c.begin-old.ensures.begun (omega (arith, low))
+    subst (λ q. IfSome q (λ r. UpdateAttempted g.F.When.first (asked_change c.args.component c.args.expected c.args.value) r c.args.stand.now c.exchange-found.new.stand)) (sym c.ended.ensures)
+    (attempt_ends _ _ _ r.held r.idle c.args.core.now (asked_change c.args.component c.args.expected c.args.value) begins g.F.When.first _ c.begin-old.ensures.held c.begin-old.ensures.kept _ c.begin-old.ensures.begun (omega (arith, low))
     _ c.write-written.ensures.leads c.write-written.result.at c.exchange-found.result (search rules) _ c.exchange-found.ensures.kept c.exchange-found.ensures.exchanged misses _ c.of.ensures)
 
 pub returns-clause-spare : goal.returns-clause-spare
@@ -74,9 +74,9 @@ returns-clause-spare g c =
     ]) in
     subst (λ q. IfSome q (λ _. nat_lt c.exchange-found.new.stand.shape.limit c.write-written.result.end ≡ false → MayCall (port_at c.exchange-found.new.stand) c.write-written.new.core)) (sym c.ended.ensures)
     (λ room. record {
-      rests = attempt_between _ _ _ r.held r.idle c.args.core.now (asked_change c.args.component c.args.expected c.args.value) begins c.args.first _ c.begin-old.ensures.held c.begin-old.ensures.kept _ c.begin-old.ensures.begun (omega (arith, low))
+      rests = attempt_between _ _ _ r.held r.idle c.args.core.now (asked_change c.args.component c.args.expected c.args.value) begins g.F.When.first _ c.begin-old.ensures.held c.begin-old.ensures.kept _ c.begin-old.ensures.begun (omega (arith, low))
           _ c.write-written.ensures.leads c.write-written.result.at c.exchange-found.result (search rules) _ c.exchange-found.ensures.kept c.exchange-found.ensures.exchanged misses _ c.of.ensures _ r.may.rests c.write-written.ensures.rests;
-      over = sym (attempt_over _ _ _ r.held r.idle c.args.core.now (asked_change c.args.component c.args.expected c.args.value) begins c.args.first _ c.begin-old.ensures.held c.begin-old.ensures.kept _ c.begin-old.ensures.begun (omega (arith, low))
+      over = sym (attempt_over _ _ _ r.held r.idle c.args.core.now (asked_change c.args.component c.args.expected c.args.value) begins g.F.When.first _ c.begin-old.ensures.held c.begin-old.ensures.kept _ c.begin-old.ensures.begun (omega (arith, low))
           _ c.write-written.ensures.leads c.write-written.result.at c.exchange-found.result (search rules) _ c.exchange-found.ensures.kept c.exchange-found.ensures.exchanged misses _ c.of.ensures _ _ refl c.write-written.ensures.end) ∙ room;
     })
 
@@ -90,7 +90,7 @@ returns-clause-over g c =
       | else-found-ge-SEAL-via-else-found-ge-SEAL w ↦ (let less = w.if-found-ge-SEAL.false in inl (omega (arith, less)))
     ]) in
     subst (λ q. IfSome q (λ _. nat_lt c.exchange-found.new.stand.shape.limit c.write-written.result.end ≡ (port_at c.exchange-found.new.stand).port.over)) (sym c.ended.ensures)
-    (attempt_over _ _ _ r.held r.idle c.args.core.now (asked_change c.args.component c.args.expected c.args.value) begins c.args.first _ c.begin-old.ensures.held c.begin-old.ensures.kept _ c.begin-old.ensures.begun (omega (arith, low))
+    (attempt_over _ _ _ r.held r.idle c.args.core.now (asked_change c.args.component c.args.expected c.args.value) begins g.F.When.first _ c.begin-old.ensures.held c.begin-old.ensures.kept _ c.begin-old.ensures.begun (omega (arith, low))
     _ c.write-written.ensures.leads c.write-written.result.at c.exchange-found.result (search rules) _ c.exchange-found.ensures.kept c.exchange-found.ensures.exchanged misses _ c.of.ensures _ _ refl c.write-written.ensures.end)
 
 pub returns-then-expected-old-clause-attempted : goal.returns-then-expected-old-clause-attempted
@@ -98,7 +98,7 @@ returns-then-expected-old-clause-attempted g c =
     let r = c.requires in
     let begins = update_begins _ _ _ c.args.core.now (asked_change c.args.component c.args.expected c.args.value) r.held r.idle r.may.rests r.may.over r.inside r.expects in
     let low = c.if-old-ge-SEAL.false in
-    first_ends _ _ _ r.held r.idle c.args.core.now (asked_change c.args.component c.args.expected c.args.value) begins c.args.first _ c.begin-old.ensures.held c.begin-old.ensures.kept _ c.begin-old.ensures.begun (omega (arith, low))
+    first_ends _ _ _ r.held r.idle c.args.core.now (asked_change c.args.component c.args.expected c.args.value) begins g.F.When.first _ c.begin-old.ensures.held c.begin-old.ensures.kept _ c.begin-old.ensures.begun (omega (arith, low))
     c.in-Some.expected c.in-Some.is c.if-expected-old.true
 
 pub returns-then-expected-old-clause-spare : goal.returns-then-expected-old-clause-spare
@@ -107,9 +107,9 @@ returns-then-expected-old-clause-spare g c =
     let begins = update_begins _ _ _ c.args.core.now (asked_change c.args.component c.args.expected c.args.value) r.held r.idle r.may.rests r.may.over r.inside r.expects in
     let low = c.if-old-ge-SEAL.false in
     λ _. record {
-      rests = first_between _ _ _ r.held r.idle c.args.core.now (asked_change c.args.component c.args.expected c.args.value) begins c.args.first _ c.begin-old.ensures.held c.begin-old.ensures.kept _ c.begin-old.ensures.begun (omega (arith, low))
+      rests = first_between _ _ _ r.held r.idle c.args.core.now (asked_change c.args.component c.args.expected c.args.value) begins g.F.When.first _ c.begin-old.ensures.held c.begin-old.ensures.kept _ c.begin-old.ensures.begun (omega (arith, low))
           c.in-Some.expected c.in-Some.is c.if-expected-old.true r.may.rests;
-      over = first_spares _ _ _ r.held r.idle c.args.core.now (asked_change c.args.component c.args.expected c.args.value) begins c.args.first _ c.begin-old.ensures.held c.begin-old.ensures.kept _ c.begin-old.ensures.begun (omega (arith, low))
+      over = first_spares _ _ _ r.held r.idle c.args.core.now (asked_change c.args.component c.args.expected c.args.value) begins g.F.When.first _ c.begin-old.ensures.held c.begin-old.ensures.kept _ c.begin-old.ensures.begun (omega (arith, low))
           c.in-Some.expected c.in-Some.is c.if-expected-old.true;
     }
 
@@ -118,7 +118,7 @@ returns-then-expected-old-clause-over g c =
     let r = c.requires in
     let begins = update_begins _ _ _ c.args.core.now (asked_change c.args.component c.args.expected c.args.value) r.held r.idle r.may.rests r.may.over r.inside r.expects in
     let low = c.if-old-ge-SEAL.false in
-    sym (first_spares _ _ _ r.held r.idle c.args.core.now (asked_change c.args.component c.args.expected c.args.value) begins c.args.first _ c.begin-old.ensures.held c.begin-old.ensures.kept _ c.begin-old.ensures.begun (omega (arith, low))
+    sym (first_spares _ _ _ r.held r.idle c.args.core.now (asked_change c.args.component c.args.expected c.args.value) begins g.F.When.first _ c.begin-old.ensures.held c.begin-old.ensures.kept _ c.begin-old.ensures.begun (omega (arith, low))
     c.in-Some.expected c.in-Some.is c.if-expected-old.true)
 
 pub returns-then-found-old-clause-steps : goal.returns-then-found-old-clause-steps
@@ -126,7 +126,7 @@ returns-then-found-old-clause-steps g c =
     let r = c.requires in
     let begins = update_begins _ _ _ c.args.core.now (asked_change c.args.component c.args.expected c.args.value) r.held r.idle r.may.rests r.may.over r.inside r.expects in
     let low = c.if-old-ge-SEAL.false in
-    attempt_steps _ _ _ r.held r.idle c.args.core.now (asked_change c.args.component c.args.expected c.args.value) begins c.args.first _ c.begin-old.ensures.held c.begin-old.ensures.kept _ c.begin-old.ensures.begun (omega (arith, low))
+    attempt_steps _ _ _ r.held r.idle c.args.core.now (asked_change c.args.component c.args.expected c.args.value) begins g.F.When.first _ c.begin-old.ensures.held c.begin-old.ensures.kept _ c.begin-old.ensures.begun (omega (arith, low))
     _ c.write-written.ensures.leads c.write-written.result.at c.exchange-found.result (search rules) _ c.exchange-found.ensures.kept c.begin-old.ensures.steps c.exchange-found.ensures.steps
 
 pub returns-clause-steps : goal.returns-clause-steps
@@ -134,5 +134,5 @@ returns-clause-steps g c =
     let r = c.requires in
     let begins = update_begins _ _ _ c.args.core.now (asked_change c.args.component c.args.expected c.args.value) r.held r.idle r.may.rests r.may.over r.inside r.expects in
     let low = c.if-old-ge-SEAL.false in
-    attempt_steps _ _ _ r.held r.idle c.args.core.now (asked_change c.args.component c.args.expected c.args.value) begins c.args.first _ c.begin-old.ensures.held c.begin-old.ensures.kept _ c.begin-old.ensures.begun (omega (arith, low))
+    attempt_steps _ _ _ r.held r.idle c.args.core.now (asked_change c.args.component c.args.expected c.args.value) begins g.F.When.first _ c.begin-old.ensures.held c.begin-old.ensures.kept _ c.begin-old.ensures.begun (omega (arith, low))
     _ c.write-written.ensures.leads c.write-written.result.at c.exchange-found.result (search rules) _ c.exchange-found.ensures.kept c.begin-old.ensures.steps c.exchange-found.ensures.steps

@@ -15,14 +15,14 @@ loop-k-init c = record {
 pub loop-k-preserved : goal.loop-k-preserved
 loop-k-preserved c =
     let w = c.loop-k.invariant in
-    let g = c.glance.ensures in
+    let g = c.see.ensures in
     let step = glanced_by _ _ _ _ g.kept g.sees in
     let less = c.loop-k-test.true in
     let within = c.requires.within in
     let room = c.requires.room in
     let same = w.room in
     let inside : c.args.from + c.loop-k.k < length c.loop-k.kept = omega (arith, less, within, room, same) in
-    let kept = length-set c.loop-k.kept (c.args.from + c.loop-k.k) c.glance.result in record {
+    let kept = length-set c.loop-k.kept (c.args.from + c.loop-k.k) c.see.result in record {
       held = g.held;
       base = w.base ∙ sym g.kept.base;
       glanced = glanced_on _ _ _ w.glanced step;

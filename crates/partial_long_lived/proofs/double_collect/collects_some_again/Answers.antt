@@ -11,13 +11,13 @@ loop-k-init c = record {
   steps = omega arith;
 }
 
-pub returns-then-glance-kept-clause-glanced : goal.returns-then-glance-kept-clause-glanced
-returns-then-glance-kept-clause-glanced c = glanced_on _ _ _ c.loop-k.invariant.glanced (glanced_by _ _ _ _ c.glance.ensures.kept c.glance.ensures.sees)
+pub returns-then-see-kept-clause-glanced : goal.returns-then-see-kept-clause-glanced
+returns-then-see-kept-clause-glanced c = glanced_on _ _ _ c.loop-k.invariant.glanced (glanced_by _ _ _ _ c.see.ensures.kept c.see.ensures.sees)
 
 pub loop-k-preserved : goal.loop-k-preserved
 loop-k-preserved c =
     let w = c.loop-k.invariant in
-    let g = c.glance.ensures in
+    let g = c.see.ensures in
     let step = glanced_by _ _ _ _ g.kept g.sees in record {
       held = g.held;
       base = w.base ∙ sym g.kept.base;
@@ -25,6 +25,6 @@ loop-k-preserved c =
       idle = glanced_idle _ _ w.idle step;
       collected = λ low few before k less.
           let more = glanced_seen _ _ w.glanced in
-          collects_same _ _ _ _ _ _ _ g.kept g.sees c.if-glance-kept.false (omega (arith, few, more)) (w.collected low few before) k (omega (arith, less));
+          collects_same _ _ _ _ _ _ _ g.kept g.sees c.if-see-kept.false (omega (arith, few, more)) (w.collected low few before) k (omega (arith, less));
       steps = let so_far = w.steps in let one = g.steps in omega (arith, so_far, one);
     }

@@ -2,4 +2,4 @@ use Rattle.std.proofs.Common.{rules, tests}
 use Rattle.partial_long_lived.proofs.update.renew.Goals as goal
 
 pub returns-clause-spare : goal.returns-clause-spare
-returns-clause-spare c = search (tests, rules)
+returns-clause-spare g c = search (tests, rules)
