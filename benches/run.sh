@@ -58,6 +58,8 @@ measure bitcode >"$made/bitcode.md"
     printf '\n## Sizes of the memory\n\n'
     sed -n '/^An update of the long-lived memory/,$p' "$made/library.md" | sed '/^A scan of all components/,$d'
     printf '## Scans of all components\n\n'
+    printf 'By one thread beside 3 writers, in sizes where a disturbed scan announces itself, and in others, where it\n'
+    printf '[changes the epoch](using/long-lived-memory.md#scans-that-dont-announce-themselves).\n\n'
     sed -n '/^A scan of all components beside 3 writers/,$p' "$made/library.md"
 } >docs/benches.md
 # The words before the tables stay as they are.

@@ -187,7 +187,7 @@ first_read table about s v t h idle held kept j found value stamp w less on same
 -- the first load of a read, which found its component sealed
 module _ (table : TableId) (about : About) (s r u v : Stand) (h : IsHeld table about s) (idle : IsIdle s) (kept : StaysAt s r) (j a : ℕ) (w : SeatSees true Reads j (port_at s) a (port_at r))
     (sealed : seal ≤ a)
-    (settled : EpochSettled r u) (held : IsHeld table about u) (c : ℕ) (last : SeatSees false Reads j (port_at u) c (port_at v)) where
+    (settled : EpochSettled false r u) (held : IsHeld table about u) (c : ℕ) (last : SeatSees false Reads j (port_at u) c (port_at v)) where
   pub settled_come : HasCome s u
   settled_come = come_on s r u (come_seen s s r true Reads j a (come_itself table about s h idle) kept w) settled.come
 

@@ -38,5 +38,5 @@ pub use Rattle.partial_long_lived.specs.declared.shape.Shape.{Shape}
 pub use Rattle.partial_long_lived.specs.declared.stand.Stand.{Stand}
 pub use Rattle.partial_long_lived.specs.declared.update_if.Asked.{Asked}
 pub use Rattle.partial_long_lived.specs.{Bounds.{arena_steps, claim_steps, pass_steps, most_of_change, most_of_scan, most_of_scans, round_if_steps, round_steps}, Calls.{Differ, HasStampThen, StillStand, StoodTogether, IsRefused, Scans, Updates, ScansStamped}, Closing.{Closes, ClosesLawfully, IsPortOf}, Ports.{HasLawfulState, IsOf, MemoryView, PortView, new_ports, port_view, seen_in, AreByOpened, Knows}, Resting.IsResting, Rule.{newcomers, Began, Contention, Search, Reckoning, Reckons, IsSearching, SeatedPort, Found, BeganInTime, IsFinal, IsLast, IsSeat, IsSeen, IsSince, plan_of, IsRuleKept, one_of, seats_of, newcomer}, Shape.{bare, shape_plan, IsShapeOf}}
-pub use Rattle.partial_long_lived.specs.Inner.{Calls.{HasCome, HasNotedRead, IsIdle, StaysAt, EpochEntered, LookFound, HasValue, EpochSettled, MayEnter}, Changing.{EpochChanged, NotChanged, GivesBack, MeetsBy, MeetsPort, PassBegun, SearchBegun, Searches, SearchesOn, search_at, IsCarriedStamp, IsRight, IsFixedWord, MayPutPort, OfOwned, Owns, PutsBy, SetsLists, SetsNext, TakesBy, HasSetWords, Stays, HasTaken, HoldsEnteringWord, IsPast, Remains, IsCause, HasSamePart, HasLoadedPort, HasPassed, SetsValue, after_value, after_values, FoundValue, HasControl, FindsSet}, Conditional.{EndedIf, HasLooked, IsExpected, IsPlaceOf, noted_if, outcome_of, HasUpdatedIf}, DoubleCollect.{AreCollected, HasGlanced, HasStayed, WasThere, AreInside, HadValue, HadValues, HasBegunCollect, MayNoteScan, NotesScan, noted_together, notes_scan}, Held.{IsHeld, epoch_at, port_at}, Last.{HaveLast, ReadsLast, value_now, arena_now, component_now}, Loads.{opening_of, SeatSees, IsFinding, Wish, noted_by, place_seen, stamp_seen, value_seen, Recalls, found_by, contention_by, component_at, sees}, Machine.{SeatMakes, MissesSeal, unsealed_answer, LeavesComponents, IsApart, MayMake, change_of, over_by, answer_found, makes, word_at, goes_on, Exchanges, begins, exchanges, SeatBegins, FindsZero, finds_zero}, Meeting.{AreComparable, Observes, HasMet, WereLawful, observes}, Moves.{becomes, BeginsPass, BeginsSearch, HasPassedArenas, contention_giving, meeting, passing, contention_taking, contention_there, contention_loading, contention_putting, FindsClear, SeatGives, LoadsPort, PassesSealed, SeatPublishes, PutsPort, Seals, Sets, Takes, passed_at, BeganBy, elsewhere, port_loaded, port_put, taken_at, LoadsCurrent, SeatLooks, StoresEnteringWord, having_found, loads, looked_at, stored_entering, SeatArrives, site_found}, Opening.OpensShape, Rests.{NotScanned, RestsAt}, Scans.{EnteredYoung, HasNotedScan, RestsUnmarked, ScanMade, noted_scan, SettledFirst}, Stamped.{ScannedNamed, ArePublic, MadeNamed, NameStamps, ScannedStamped}, Steps.{SeatGoes, IsSeatKnown, IsOne, tells, BeginsWith, HasStampsInWords, HasRecordStamps}, Unchanged.{stamp_at, HadStamps, HadAnother, HadStamp, HasStamp}, Under.{claimed_end, CallMade, awaits, has_claimed, neither, record_claim, IsGoing, ComesTo, MayBegin, machine_at, before_claim, before_no_view, seat_left_at, seat_steps_left}, Updates.{UpdateAttempted, ExchangeDue, ExpectsOne, IsEntryOf, IsOwnMachine, NotesNothing, PortStayed, noted_where, word_from, MayCall, CameBy, IsLate, FoundSealed, UpdateEnded, noted_change, public_update, stamp_from, asked_change, ended_as}}
+pub use Rattle.partial_long_lived.specs.Inner.{Calls.{EpochSettled, HasCome, HasNotedRead, IsIdle, StaysAt, EpochEntered, LookFound, HasValue, MayEnter}, Changing.{EpochChanged, NotChanged, GivesBack, MeetsBy, MeetsPort, PassBegun, SearchBegun, Searches, SearchesOn, search_at, IsCarriedStamp, IsRight, IsFixedWord, MayPutPort, OfOwned, Owns, PutsBy, SetsLists, SetsNext, TakesBy, HasSetWords, Stays, HasTaken, HoldsEnteringWord, IsPast, Remains, IsCause, HasSamePart, HasLoadedPort, HasPassed, SetsValue, after_value, after_values, FoundValue, HasControl, FindsSet}, Conditional.{EndedIf, HasLooked, IsExpected, IsPlaceOf, noted_if, outcome_of, HasUpdatedIf}, DoubleCollect.{AreCollected, HasGlanced, HasStayed, WasThere, AreInside, HadValue, HadValues, HasBegunCollect, MayNoteScan, NotesScan, noted_together, notes_scan}, Held.{IsHeld, epoch_at, port_at}, Last.{HaveLast, ReadsLast, value_now, arena_now, component_now}, Loads.{opening_of, SeatSees, IsFinding, Wish, noted_by, place_seen, stamp_seen, value_seen, Recalls, found_by, contention_by, component_at, sees}, Machine.{SeatMakes, MissesSeal, unsealed_answer, LeavesComponents, IsApart, MayMake, change_of, over_by, answer_found, makes, word_at, goes_on, Exchanges, begins, exchanges, SeatBegins, FindsZero, finds_zero}, Meeting.{AreComparable, Observes, HasMet, WereLawful, observes}, Moves.{becomes, BeginsPass, BeginsSearch, HasPassedArenas, contention_giving, meeting, passing, contention_taking, contention_there, contention_loading, contention_putting, FindsClear, SeatGives, LoadsPort, PassesSealed, SeatPublishes, PutsPort, Seals, Sets, Takes, passed_at, BeganBy, elsewhere, port_loaded, port_put, taken_at, LoadsCurrent, SeatLooks, StoresEnteringWord, having_found, loads, looked_at, stored_entering, SeatArrives, site_found}, Opening.OpensShape, Rests.{NotScanned, RestsAt}, Scans.{EnteredYoung, HasNotedScan, RestsUnmarked, ScanMade, noted_scan}, Stamped.{ScannedNamed, ArePublic, MadeNamed, NameStamps, ScannedStamped}, Steps.{SeatGoes, IsSeatKnown, IsOne, tells, BeginsWith, HasStampsInWords, HasRecordStamps}, Unchanged.{stamp_at, HadStamps, HadAnother, HadStamp, HasStamp}, Under.{claimed_end, CallMade, awaits, has_claimed, neither, record_claim, IsGoing, ComesTo, MayBegin, machine_at, before_claim, before_no_view, seat_left_at, seat_steps_left}, Updates.{UpdateAttempted, ExchangeDue, ExpectsOne, IsEntryOf, IsOwnMachine, NotesNothing, PortStayed, noted_where, word_from, MayCall, CameBy, IsLate, FoundSealed, UpdateEnded, noted_change, public_update, stamp_from, asked_change, ended_as}}
 pub use Rattle.partial_long_lived.specs.Inner.Loads.Wish.{Glances, Reads, Expects, Finds}

@@ -1,5 +1,5 @@
 -- A scan by a double collect: two equal collects stood together between them.
-use Rattle.partial_long_lived.proofs.{Common.{ℕ, suc, ◌≡◌, ◌+◌, ◌-◌, ◌<◌, ◌≤◌, ◌&&◌, ◌++◌, not, Bool, true, false, if◌then◌else◌, Option, None, Result, Ok, Err, IfOk, IfErr, List, [], ◌∷◌, length, map, take, slice_set, refl, sym, ap, subst, ◌∙◌, inl, inr, arith, append-nil, length-append, nat_lt, slice_index, option_map_or, AllByRecursion, eqb_tells, ext_get_or, get_or-map, get_or-set_other, get_or-set_same, length-map, length-set, TableId, Applied, IsHistory, value_of, Noted, seen_by, legal_notes_are_shown, stamps_never_return, core_of, packed, seal, having_passed, having_looked, history_of, public_entry, public_log, OwnedArena, Port, Refused, About, Stand, Began, SeatedPort, seen_in, IsHeld, port_at, having_found, looked_at, HasCome, IsIdle, StaysAt, LookFound, SeatSees, noted_by, opening_of, Glances, HasNotedScan, ScanMade, SettledFirst, noted_scan, NotScanned, AreCollected, AreInside, HadValue, HadValues, HasBegunCollect, HasGlanced, HasStayed, MayNoteScan, NotesScan, WasThere, stamp_of, Scanned, total, value_word, unsealed, public_of, plan_of, MadeNamed, NameStamps, ScannedNamed}, Coming.{come_itself, come_on, come_same, come_seen, goes_on, seen_more}, Looking.looked_away, Seen.begin_history, Conditional.record_small, Collects.{glanced_come, glanced_idle, glanced_notes, glanced_seen, glanced_stayed, glanced_there, stayed_on, there_now}}
+use Rattle.partial_long_lived.proofs.{Common.{ℕ, suc, ◌≡◌, ◌+◌, ◌-◌, ◌<◌, ◌≤◌, ◌&&◌, ◌++◌, not, Bool, true, false, if◌then◌else◌, Option, None, Result, Ok, Err, IfOk, IfErr, List, [], ◌∷◌, length, map, take, slice_set, refl, sym, ap, subst, ◌∙◌, inl, inr, arith, append-nil, length-append, nat_lt, slice_index, option_map_or, AllByRecursion, eqb_tells, ext_get_or, get_or-map, get_or-set_other, get_or-set_same, length-map, length-set, TableId, Applied, IsHistory, value_of, Noted, seen_by, legal_notes_are_shown, stamps_never_return, core_of, packed, seal, having_passed, having_looked, history_of, public_entry, public_log, OwnedArena, Port, Refused, About, Stand, Began, SeatedPort, seen_in, IsHeld, port_at, having_found, looked_at, HasCome, IsIdle, StaysAt, LookFound, SeatSees, noted_by, opening_of, Glances, HasNotedScan, ScanMade, EpochSettled, noted_scan, NotScanned, AreCollected, AreInside, HadValue, HadValues, HasBegunCollect, HasGlanced, HasStayed, MayNoteScan, NotesScan, WasThere, stamp_of, Scanned, total, value_word, unsealed, public_of, plan_of, MadeNamed, NameStamps, ScannedNamed}, Coming.{come_itself, come_on, come_same, come_seen, goes_on, seen_more}, Looking.looked_away, Seen.begin_history, Conditional.record_small, Collects.{glanced_come, glanced_idle, glanced_notes, glanced_seen, glanced_stayed, glanced_there, stayed_on, there_now}}
 
 -- The first step of the scan led from the stand s to u, and perhaps a look on to t, of which nothing is new.
 module _ (table : TableId) (about : About) (s u t : Stand) (h : IsHeld table about s) (idle : IsIdle s) (kept : StaysAt s u) (j a : ℕ)
@@ -35,7 +35,7 @@ module _ (table : TableId) (about : About) (s u t : Stand) (h : IsHeld table abo
           settled = record {
             come = come_then;
             notes = ap (λ (x : SeatedPort). x.notes) same ∙ notes_are;
-            first = let few = w.began in omega (arith, few, n_length, now);
+            began = let few = w.began in omega (arith, few, n_length, now);
             fresh =
                 let epoch = h.epoch in
                 let here = kept'.epoch ∙ kept.epoch in
@@ -92,11 +92,11 @@ module _ (table : TableId) (about : About) (s u t : Stand) (h : IsHeld table abo
         })
 
 -- what the first steps have settled stays so
-pub settled_on : (s t u : Stand) → SettledFirst s t → HasGlanced t u → SettledFirst s u
+pub settled_on : (s t u : Stand) → EpochSettled true s t → HasGlanced t u → EpochSettled true s u
 settled_on s t u b g = record {
   come = come_on s t u b.come (glanced_come t u b.come.idle g);
   notes = ap (λ (x : SeatedPort). x.notes) g.is ∙ b.notes;
-  first = let few = b.first in let same = ap (λ (x : SeatedPort). x.began.length) g.is in omega (arith, few, same);
+  began = let few = b.began in let same = ap (λ (x : SeatedPort). x.began.length) g.is in omega (arith, few, same);
   fresh = let young = b.fresh in let same = ap (λ (x : SeatedPort). x.began.epoch) g.is in let epoch = g.kept.epoch in omega (arith, young, same, epoch);
 }
 

@@ -1,5 +1,5 @@
 -- How a meeting of two ports leaves each of them.
-use Rattle.partial_long_lived.proofs.{Common.{◌≡◌, ◌<◌, ◌≤◌, List, [], ◌∷◌, length, take, inl, sym, ap, subst, ◌∙◌, arith, append-nil, take-append_seam, Me, TableId, Applied, core_of, About, Stand, Began, SeatedPort, first_port, one_of, IsOf, MemoryView, PortView, port_view, seen_in, HasCome, IsIdle, StaysAt, EpochSettled, IsHeld, port_at, BeginsWith, IsOne, HasMet, Observes, Knows, HasLawfulState, WereLawful, inr, ◌⊎◌, AreComparable}, Answering.{callers_see, goes_seen, view_before, view_after}, Coming.{begins_on, come_on}}
+use Rattle.partial_long_lived.proofs.{Common.{false, ◌≡◌, ◌<◌, ◌≤◌, List, [], ◌∷◌, length, take, inl, sym, ap, subst, ◌∙◌, arith, append-nil, take-append_seam, Me, TableId, Applied, core_of, About, Stand, Began, SeatedPort, first_port, one_of, IsOf, MemoryView, PortView, port_view, seen_in, HasCome, IsIdle, StaysAt, EpochSettled, IsHeld, port_at, BeginsWith, IsOne, HasMet, Observes, Knows, HasLawfulState, WereLawful, inr, ◌⊎◌, AreComparable}, Answering.{callers_see, goes_seen, view_before, view_after}, Coming.{begins_on, come_on}}
 use Rattle.partial_long_lived.specs.Calls as calls
 
 -- a port that has seen all of its epoch stands where it stood
@@ -80,7 +80,7 @@ module _ (table : TableId) (about : About) (s o u p : Stand) (h : IsHeld table a
     }
 
   -- from an earlier epoch the port enters the current one, and looks again
-  module _ (r t q : Stand) (early : s.epoch < o.epoch) (settled : EpochSettled u r) (held : IsHeld table about r) (kept_last : StaysAt r t) (kept_beside : StaysAt p q) (same_beside : port_at q ≡ port_at p)
+  module _ (r t q : Stand) (early : s.epoch < o.epoch) (settled : EpochSettled false u r) (held : IsHeld table about r) (kept_last : StaysAt r t) (kept_beside : StaysAt p q) (same_beside : port_at q ≡ port_at p)
       (w' : Observes (port_at r) (port_at p) (port_at t)) where
     come_late : (port_at p).port.control.here.epoch ≤ (port_at r).port.control.here.epoch
     come_late =

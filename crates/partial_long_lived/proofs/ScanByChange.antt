@@ -1,5 +1,5 @@
 -- A scan by a change of epoch: the port enters an epoch that opened during the call, and notes what its components had as it opened.
-use Rattle.partial_long_lived.proofs.{Common.{ℕ, Option, option_map_or, initial_stamp, ◌≡◌, ◌+◌, ◌*◌, ◌-◌, false, ◌<◌, ◌≤◌, Result, Ok, Err, IfOk, IfErr, List, [], ◌∷◌, length, slice_index, refl, sym, ap, subst, ◌∙◌, inl, inr, arith, TableId, Applied, Opening, initial_record, value_word, total, stamp_of, core_of, opened_after, About, Stand, SeatedPort, seen_in, Refused, IsHeld, port_at, HasCome, IsIdle, StaysAt, EpochChanged, NotChanged, NotScanned, SettledFirst, EnteredYoung, opening_of, AreCollected, AreInside, HadValue, HadValues, HasStayed, MayNoteScan, NotesScan, MadeNamed, Scanned, ScannedNamed, None, IsLayout, plain_record_size, stamp_limit, unsealed, take_all, HasGlanced, slice_set, IsCause}, Coming.{come_on, goes_on}, Collects.glanced_itself, DoubleCollect.{come_named, come_refused, may_together, seen_long, together_named, together_stayed}, RecordStamps.unsealed_same}
+use Rattle.partial_long_lived.proofs.{Common.{true, ℕ, Option, option_map_or, initial_stamp, ◌≡◌, ◌+◌, ◌*◌, ◌-◌, false, ◌<◌, ◌≤◌, Result, Ok, Err, IfOk, IfErr, List, [], ◌∷◌, length, slice_index, refl, sym, ap, subst, ◌∙◌, inl, inr, arith, TableId, Applied, Opening, initial_record, value_word, total, stamp_of, core_of, opened_after, About, Stand, SeatedPort, seen_in, Refused, IsHeld, port_at, HasCome, IsIdle, StaysAt, EpochChanged, NotChanged, NotScanned, EpochSettled, EnteredYoung, opening_of, AreCollected, AreInside, HadValue, HadValues, HasStayed, MayNoteScan, NotesScan, MadeNamed, Scanned, ScannedNamed, None, IsLayout, plain_record_size, stamp_limit, unsealed, take_all, HasGlanced, slice_set, IsCause}, Coming.{come_on, goes_on}, Collects.glanced_itself, DoubleCollect.{come_named, come_refused, may_together, seen_long, together_named, together_stayed}, RecordStamps.unsealed_same}
 use Rattle.partial_model.proofs.HistoryLemmas.{last_entry-nil}
 
 -- the port of a stand has entered a later epoch
@@ -27,7 +27,7 @@ refused_come s t w = record {
 }
 
 -- The first steps of the call have led to the stand u, and a change of epoch to t.
-module _ (table : TableId) (about : About) (s u t : Stand) (h : IsHeld table about u) (settled : SettledFirst s u) where
+module _ (table : TableId) (about : About) (s u t : Stand) (h : IsHeld table about u) (settled : EpochSettled true s u) where
   young_then : EpochChanged false u t → EnteredYoung s t
   young_then changed =
       let began = changed.began in
@@ -43,7 +43,7 @@ module _ (table : TableId) (about : About) (s u t : Stand) (h : IsHeld table abo
         settled = record {
           come = come_on s u t settled.come (changed_come table about u t h changed);
           notes = ap (λ (x : SeatedPort). x.notes) changed.is ∙ settled.notes;
-          first = let few = settled.first in omega (arith, few, length_is);
+          began = let few = settled.began in omega (arith, few, length_is);
           fresh = omega (arith, up, same);
         };
         young = omega (arith, fresh, later, here, epoch_is);
@@ -152,7 +152,7 @@ module _ (table : TableId) (about : About) (s : Stand) (h : IsHeld table about s
           together_named table about s s v h idle js ws inside some first itself kept_on same t kept_then i a noted_here vs initial_there values many last time
 
 -- The port has settled, which has led to u, has tried further double collects, which has led to v, and has scanned on, which has led to t.
-module _ (s u v t : Stand) (settled : SettledFirst s u) (stayed : HasStayed u v) (notes : (port_at v).notes ≡ (port_at u).notes) where
+module _ (s u v t : Stand) (settled : EpochSettled true s u) (stayed : HasStayed u v) (notes : (port_at v).notes ≡ (port_at u).notes) where
   come : HasCome s v
   come = come_on s u v settled.come stayed.come
 

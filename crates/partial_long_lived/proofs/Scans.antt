@@ -1,5 +1,5 @@
 -- A scan where a port stands: its first step is allowed, and what it leaves of its port.
-use Rattle.partial_long_lived.proofs.{Common.{None, true, nat_lt, ◌==◌, ◌&&◌, StoringAnnouncement, at_stage, slot_limit, IsEpochPlan, awaits, before_claim, has_claimed, answers_lead_on, most_of_scan, seat_steps_left, ℕ, ◌≡◌, ◌+◌, ◌-◌, ◌%◌, ◌^◌, ◌<◌, ◌≤◌, ◌||◌, ◌++◌, Bool, false, if◌then◌else◌, Option, Some, List, [], ◌∷◌, length, map, refl, sym, ap, subst, ◌∙◌, inl, inr, arith, length-append, is_some, slice_index, length-map, Allows, TableId, Applied, Call, Note, Noted, place_of, Add, Layout, IsLayout, pool_counter, total, Reply, call_of, CoreState, advance, reply_of, scanned_values, step_of, AreComponentIndices, IsSound, AreNotesOf, IsNoteOf, IsPlacedAt, Plan, base, plain, unsealed, history_of, public_entry, public_log, public_noted, Control, not_below, RestsLike, About, Stand, Began, IsRuleKept, SeatedPort, plan_of, SeatGoes, IsOne, IsHeld, port_at, IsIdle, component_at, SeatMakes, unsealed_answer, makes, over_by, word_at, HasNotedScan, RestsUnmarked, ScanMade, SettledFirst, noted_scan, CallMade, IsGoing, ComesTo, MayBegin, machine_at, take, Opening, stamp_of, CollectsStamps, opened_after, stamp_limit, public_of, stamp_public, opening_of, MadeNamed, NameStamps, ScannedNamed, stamp_at, announcement_size, scan_asked, Answer, Block}, RecordStamps.{stamp_small, unsealed_same}, Coming.goes_on, Making.may_make, Standing.{arena_there, held_then, room_of}, Under.{first_made, first_may}, Unmarked.marks_stay, Zeros.seat_fewer}
+use Rattle.partial_long_lived.proofs.{Common.{None, true, nat_lt, ◌==◌, ◌&&◌, StoringAnnouncement, at_stage, slot_limit, IsEpochPlan, awaits, before_claim, has_claimed, answers_lead_on, most_of_scan, seat_steps_left, ℕ, ◌≡◌, ◌+◌, ◌-◌, ◌%◌, ◌^◌, ◌<◌, ◌≤◌, ◌||◌, ◌++◌, Bool, false, if◌then◌else◌, Option, Some, List, [], ◌∷◌, length, map, refl, sym, ap, subst, ◌∙◌, inl, inr, arith, length-append, is_some, slice_index, length-map, Allows, TableId, Applied, Call, Note, Noted, place_of, Add, Layout, IsLayout, pool_counter, total, Reply, call_of, CoreState, advance, reply_of, scanned_values, step_of, AreComponentIndices, IsSound, AreNotesOf, IsNoteOf, IsPlacedAt, Plan, base, plain, unsealed, history_of, public_entry, public_log, public_noted, Control, not_below, RestsLike, About, Stand, Began, IsRuleKept, SeatedPort, plan_of, SeatGoes, IsOne, IsHeld, port_at, IsIdle, component_at, SeatMakes, unsealed_answer, makes, over_by, word_at, HasNotedScan, RestsUnmarked, ScanMade, EpochSettled, noted_scan, CallMade, IsGoing, ComesTo, MayBegin, machine_at, take, Opening, stamp_of, CollectsStamps, opened_after, stamp_limit, public_of, stamp_public, opening_of, MadeNamed, NameStamps, ScannedNamed, stamp_at, announcement_size, scan_asked, Answer, Block}, RecordStamps.{stamp_small, unsealed_same}, Coming.goes_on, Making.may_make, Standing.{arena_there, held_then, room_of}, Under.{first_made, first_may}, Unmarked.marks_stay, Zeros.seat_fewer}
 use Rattle.std.proofs.lemmas.Bool.{eq-eqb, ltb-true, ne_eqb}
 use Rattle.partial_model.specs.declared.call.Refused.{Refused}
 use Rattle.partial_active.specs.declared.join.JoinStage.TheVariants.{Storing, Spent}
@@ -322,7 +322,7 @@ module _ (table : TableId) (about : About) (s u t : Stand) (h : IsHeld table abo
       }
 
 -- a scan in an epoch to which the port came as the scan began
-pub has_scanned : (s u t : Stand) (which values : List ℕ) (collects : ℕ) (borrowed : Option ℕ) → SettledFirst s u → ScanMade u t which values collects borrowed →
+pub has_scanned : (s u t : Stand) (which values : List ℕ) (collects : ℕ) (borrowed : Option ℕ) → EpochSettled true s u → ScanMade u t which values collects borrowed →
     HasNotedScan s t which values collects borrowed
 has_scanned s u t which values collects borrowed settled made = record {
   shape = made.shape ∙ settled.come.shape;
@@ -337,13 +337,13 @@ has_scanned s u t which values collects borrowed settled made = record {
   idle = made.idle;
   place = made.place;
   notes = made.notes ∙ ap (λ (l : List Noted). l ++ noted_scan t.epoch which values collects borrowed made.place ∷ []) settled.notes;
-  first = let few = settled.first in let same = ap (λ (g : Began). g.length) made.began in omega (arith, few, same);
+  first = let few = settled.began in let same = ap (λ (g : Began). g.length) made.began in omega (arith, few, same);
   behind = made.behind;
   within = made.within;
 }
 
 -- and the words that it has collected last name the stamps at its place
-pub has_named : (s u t : Stand) (which values : List ℕ) (collects : ℕ) (borrowed : Option ℕ) (ws : List ℕ) → SettledFirst s u → MadeNamed u t which values collects borrowed ws →
+pub has_named : (s u t : Stand) (which values : List ℕ) (collects : ℕ) (borrowed : Option ℕ) (ws : List ℕ) → EpochSettled true s u → MadeNamed u t which values collects borrowed ws →
     ScannedNamed s t which values collects borrowed ws
 unfolding has_scanned
 has_named s u t which values collects borrowed ws settled named = record { scanned = has_scanned s u t which values collects borrowed settled named.made; stamps = named.stamps }

@@ -1,5 +1,5 @@
 -- Components that still have the stamps that they had.
-use Rattle.partial_long_lived.proofs.{Common.{ℕ, ◌≡◌, ◌+◌, ◌<◌, ◌≤◌, List, [], ◌∷◌, length, take, sym, ap, subst, ◌∙◌, inl, inr, arith, append-nil, slice_index, eqb_tells, take-append-le, TableId, Applied, stamp_of, stamps_never_return, About, Stand, SeatedPort, IsOf, MemoryView, PortView, port_view, seen_in, Differ, HasStampThen, StillStand, SeatGoes, IsHeld, port_at, SettledFirst, HasGlanced, HadAnother, HadStamp, HadStamps, HasStamp, stamp_at, StoodTogether}, Answering.{callers_see, goes_seen}, Coming.seen_more}
+use Rattle.partial_long_lived.proofs.{Common.{true, ℕ, ◌≡◌, ◌+◌, ◌<◌, ◌≤◌, List, [], ◌∷◌, length, take, sym, ap, subst, ◌∙◌, inl, inr, arith, append-nil, slice_index, eqb_tells, take-append-le, TableId, Applied, stamp_of, stamps_never_return, About, Stand, SeatedPort, IsOf, MemoryView, PortView, port_view, seen_in, Differ, HasStampThen, StillStand, SeatGoes, IsHeld, port_at, EpochSettled, HasGlanced, HadAnother, HadStamp, HadStamps, HasStamp, stamp_at, StoodTogether}, Answering.{callers_see, goes_seen}, Coming.seen_more}
 
 -- what the port had seen begins what it has seen then
 taken_more : (x y : SeatedPort) → SeatGoes x y → (n : ℕ) → n ≤ length (seen_in x.port) → take n (seen_in y.port) ≡ take n (seen_in x.port)
@@ -34,7 +34,7 @@ had_more s t g js ss n v inside now same all k less = elim (eqb_tells k n) [
 ]
 
 -- the same, as callers see it
-module _ (table : TableId) (s t : Stand) (settled : SettledFirst s t) where
+module _ (table : TableId) (s t : Stand) (settled : EpochSettled true s t) where
   abbrev x : SeatedPort
   x = port_at s
 
@@ -62,11 +62,11 @@ module _ (table : TableId) (s t : Stand) (settled : SettledFirst s t) where
     goes = goes_seen table x y [] goes (settled.notes ∙ sym (append-nil x.notes));
     there = λ k low. subst (λ (a : About). slice_index js k < a.sizes.m) goes.about (had k low).inside;
     place = n;
-    first = settled.first;
+    first = settled.began;
     behind = behind;
     within = within;
     each = λ k low. let h = had k low in (h.moment, early k (slice_index ss k) low h, h.to, sym h.is);
-    together = λ k low i few was. stood n (slice_index js k) (slice_index ss k) (let first = settled.first in omega (arith, first, behind)) (had k low) (early k (slice_index ss k) low (had k low)) i few was;
+    together = λ k low i few was. stood n (slice_index js k) (slice_index ss k) (let first = settled.began in omega (arith, first, behind)) (had k low) (early k (slice_index ss k) low (had k low)) i few was;
   }
 
   pub still : (js ss : List ℕ) → HadStamps y js ss (length js) → StillStand (port_view table s.seat.steps x) (port_view table t.seat.steps y) js ss
@@ -80,7 +80,7 @@ module _ (table : TableId) (s t : Stand) (settled : SettledFirst s t) where
   pub differ : (js ss : List ℕ) → HadAnother y js ss → Differ (port_view table s.seat.steps x) (port_view table t.seat.steps y) js ss
   differ js ss w = record {
     goes = goes_seen table x y [] goes (settled.notes ∙ sym (append-nil x.notes));
-    first = settled.first;
+    first = settled.began;
     position = w.position;
     inside = w.inside;
     why = elim w.why [
@@ -92,7 +92,7 @@ module _ (table : TableId) (s t : Stand) (settled : SettledFirst s t) where
   }
 
 -- the same, as callers see the port
-module _ (m : MemoryView) (t u : Stand) (p : PortView) (view : port_view t.seat.table_id t.seat.steps (port_at t) ≡ p) (own : IsOf m p) (held : IsHeld m.table m.about u) (settled : SettledFirst t u) (js ss : List ℕ) where
+module _ (m : MemoryView) (t u : Stand) (p : PortView) (view : port_view t.seat.table_id t.seat.steps (port_at t) ≡ p) (own : IsOf m p) (held : IsHeld m.table m.about u) (settled : EpochSettled true t u) (js ss : List ℕ) where
   pub still_seen : HadStamps (port_at u) js ss (length js) → StillStand p (port_view u.seat.table_id u.seat.steps (port_at u)) js ss
   still_seen had = callers_see m t u p view own held (λ (a b : PortView). StillStand a b js ss) (still m.table t u settled js ss had)
 

@@ -3,7 +3,7 @@
 ghost use Rattle.std.specs.Prelude.{◌≡◌, ◌+◌, ◌<◌, ◌≤◌};
 ghost use Rattle.partial_epochs.specs.Layout.{packed};
 ghost use Rattle.partial_long_lived.specs.Inner.Held.{IsHeld};
-ghost use Rattle.partial_long_lived.specs.Inner.Calls.{StaysAt, LookFound, MayLook, EpochEntered, MayEnter};
+ghost use Rattle.partial_long_lived.specs.Inner.Calls.{EpochEntered, EpochSettled, IsIdle, LookFound, MayEnter, MayLook, StaysAt};
 
 use crate::plays::{Arrive, LoadCurrent, Look, StoreEnteringWord, When};
 use crate::rule::Words;
@@ -62,4 +62,18 @@ pub fn enter(words: &Words, stand: &mut Stand)
     stand.arena = (site % ARENAS) as u32;
     stand.base = stand.shape.base(stand.arena);
     stand.passed = 0;
+}
+
+/// Enters the current epoch if the port's epoch has ended. What the port loads then is no older than this. `F` says whether
+/// the look with which it begins is the first step of its call.
+pub fn settle<F: When>(words: &Words, stand: &mut Stand)
+    requires held { IsHeld words.now.table_id words.now.key stand.old }
+    requires idle { IsIdle stand.old }
+    ensures held { IsHeld words.now.table_id words.now.key stand.new }
+    ensures settled { EpochSettled F.first stand.old stand.new }
+    ensures steps { stand.new.seat.steps ≤ stand.old.seat.steps + 4 }
+{
+    if !look::<F>(words, stand) {
+        enter(words, stand);
+    }
 }

@@ -8,8 +8,8 @@ ghost use Rattle.partial_long_lived.specs.Inner.Calls.{IsIdle, StaysAt};
 ghost use Rattle.partial_long_lived.specs.Inner.Meeting.{AreComparable, HasMet, Observes, WereLawful};
 ghost use Rattle.partial_long_lived.specs.Inner.Steps.{SeatGoes, IsSeatKnown, IsOne};
 
-use crate::plays::Observe;
-use crate::read::settle;
+use crate::enter::settle;
+use crate::plays::{Later, Observe};
 use crate::rule::{Deals, Gathers, PortSeat, Words};
 use crate::stand::Stand;
 
@@ -71,7 +71,7 @@ fn meet_later(words: &Words, earlier: Stand, later: Stand) -> (Stand, Stand)
         let (second, first) = observe(words, second, first);
         return (first, second);
     }
-    settle(words, &mut first);
+    settle::<Later>(words, &mut first);
     observe(words, first, second)
 }
 

@@ -5,29 +5,16 @@ ghost use Rattle.partial_epochs.specs.Notes.{public_of};
 ghost use Rattle.partial_epochs.specs.Ports.Entering.{Stands};
 ghost use Rattle.partial_long_lived.specs.Rule.{plan_of};
 ghost use Rattle.partial_long_lived.specs.Inner.Held.{IsHeld, port_at};
-ghost use Rattle.partial_long_lived.specs.Inner.Calls.{HasCome, HasLoadedRecord, HasNotedRead, HasValue, IsIdle, EpochSettled, StaysAt};
+ghost use Rattle.partial_long_lived.specs.Inner.Calls.{HasCome, HasLoadedRecord, HasNotedRead, HasValue, IsIdle, StaysAt};
 ghost use Rattle.partial_long_lived.specs.Inner.Late.{HasFoundSeal};
 ghost use Rattle.partial_long_lived.specs.Inner.Rests.{RestsAt};
 
 use crate::arena::{SEAL, load_value, public_stamp, see};
-use crate::enter::{enter, look};
+use crate::enter::settle;
 use crate::plays::{AtFirst, Later, ToRead};
 use crate::rule::Words;
 use crate::stand::Stand;
 use partial_core::Core;
-
-/// Enters the current epoch if the port's epoch has ended. What the port loads then is no older than this.
-pub fn settle(words: &Words, stand: &mut Stand)
-    requires held { IsHeld words.now.table_id words.now.key stand.old }
-    requires idle { IsIdle stand.old }
-    ensures held { IsHeld words.now.table_id words.now.key stand.new }
-    ensures settled { EpochSettled stand.old stand.new }
-    ensures steps { stand.new.seat.steps ≤ stand.old.seat.steps + 4 }
-{
-    if !look::<Later>(words, stand) {
-        enter(words, stand);
-    }
-}
 
 /// Reads component `component` where the port stands: its value and its public stamp. Returns `None` when the component is
 /// sealed there: then the port has noted nothing.
@@ -111,7 +98,7 @@ pub fn read_late(
     ensures steps { stand.new.seat.steps ≤ stand.old.seat.steps + 7 }
 {
     let epoch = stand.epoch;
-    settle(words, stand);
+    settle::<Later>(words, stand);
     let base = stand.base;
     let at = see::<Later, ToRead>(words, stand, base, component) % SEAL;
     let own = stand.shape.own;

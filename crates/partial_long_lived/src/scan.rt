@@ -15,10 +15,10 @@ ghost use Rattle.partial_epochs.specs.Layout.{slot_limit};
 ghost use Rattle.partial_long_lived.specs.Rule.{plan_of};
 ghost use Rattle.partial_long_lived.specs.Bounds.{most_further, most_of_change, most_of_scan};
 ghost use Rattle.partial_long_lived.specs.Inner.Held.{IsHeld, port_at};
-ghost use Rattle.partial_long_lived.specs.Inner.Calls.{IsIdle};
+ghost use Rattle.partial_long_lived.specs.Inner.Calls.{EpochSettled, IsIdle};
 ghost use Rattle.partial_long_lived.specs.Inner.DoubleCollect.{AreInside};
 ghost use Rattle.partial_long_lived.specs.Inner.Rests.{NotScanned, RestsAt};
-ghost use Rattle.partial_long_lived.specs.Inner.Scans.{HasNotedScan, RestsUnmarked, ScanBegun, SettledFirst};
+ghost use Rattle.partial_long_lived.specs.Inner.Scans.{HasNotedScan, RestsUnmarked, ScanBegun};
 ghost use Rattle.partial_long_lived.specs.Inner.Stamped.{MadeNamed, ScannedNamed};
 ghost use Rattle.partial_long_lived.specs.Inner.Under.{IsGoing, ComesTo, MayBegin, machine_at};
 
@@ -46,7 +46,7 @@ fn settle_first(words: &Words, stand: &mut Stand, core: &mut Core)
     requires rests { RestsUnmarked (port_at stand.old) core.old }
     requires spare { (port_at stand.old).port.over ≡ false }
     ensures held { IsHeld words.now.table_id words.now.key stand.new }
-    ensures settled { SettledFirst stand.old stand.new }
+    ensures settled { EpochSettled true stand.old stand.new }
     ensures rests { RestsUnmarked (port_at stand.new) core.new }
     ensures spare { (port_at stand.new).port.over ≡ false }
     ensures steps { stand.new.seat.steps ≤ stand.old.seat.steps + 4 }

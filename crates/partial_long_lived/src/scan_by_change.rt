@@ -5,19 +5,19 @@ ghost use Rattle.std.specs.Prelude.{ℕ, ◌≡◌, ◌+◌, ◌*◌, ◌<◌, �
 ghost use Rattle.partial_words.specs.Layout.{initial_record};
 ghost use Rattle.partial_long_lived.specs.Bounds.{double_collect_steps, most_of_change, most_of_scan_by_change, tries};
 ghost use Rattle.partial_long_lived.specs.Inner.Held.{IsHeld, port_at};
-ghost use Rattle.partial_long_lived.specs.Inner.Calls.{HasCome, IsIdle};
+ghost use Rattle.partial_long_lived.specs.Inner.Calls.{EpochSettled, HasCome, IsIdle};
 ghost use Rattle.partial_long_lived.specs.Inner.DoubleCollect.{AreInside, HasStayed};
 ghost use Rattle.partial_long_lived.specs.Inner.Rests.{NotScanned, RestsAt};
-ghost use Rattle.partial_long_lived.specs.Inner.Scans.{EnteredYoung, SettledFirst};
+ghost use Rattle.partial_long_lived.specs.Inner.Scans.{EnteredYoung};
 ghost use Rattle.partial_long_lived.specs.Inner.Stamped.{MadeNamed, ScannedNamed};
 
 use crate::change::change;
 use crate::double_collect::{double_collect, load_noting, load_values};
+use crate::enter::settle;
 use crate::error::Refused;
-use crate::plays::{Later, Together};
+use crate::plays::{AtFirst, Later, Together};
 use crate::rule::Words;
 use crate::stand::Stand;
-use crate::unchanged::settle_now;
 use partial_core::Core;
 use partial_lines::Scanned;
 use std::marker::Brand;
@@ -73,12 +73,12 @@ fn settle_resting(words: &Words, stand: &mut Stand, core: &mut Core, spent: &mut
     requires held { IsHeld words.now.table_id words.now.key stand.old }
     requires rests { RestsAt stand.old core.old spent.old }
     ensures held { IsHeld words.now.table_id words.now.key stand.new }
-    ensures settled { SettledFirst stand.old stand.new }
+    ensures settled { EpochSettled true stand.old stand.new }
     ensures rests { RestsAt stand.new core.new spent.new }
     ensures steps { stand.new.seat.steps ≤ stand.old.seat.steps + 4 }
 {
     let epoch = stand.epoch;
-    settle_now(words, stand);
+    settle::<AtFirst>(words, stand);
     if stand.epoch != epoch {
         core.clear_marks();
         *spent = false;
@@ -186,7 +186,7 @@ fn enter_next(words: &Words, stand: &mut Stand) -> Result<(), Refused>
     ensures refused { IfErr result (NotScanned stand.old stand.new) }
     ensures steps { stand.new.seat.steps ≤ stand.old.seat.steps + (4 + most_of_change words.now.key) }
 {
-    settle_now(words, stand);
+    settle::<AtFirst>(words, stand);
     change::<Later>(words, stand)
 }
 

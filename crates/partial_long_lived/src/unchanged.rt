@@ -2,13 +2,12 @@
 
 ghost use Rattle.std.specs.Prelude.{◌≡◌, ◌+◌, ◌*◌, ◌<◌, ◌≤◌, true, false, length};
 ghost use Rattle.partial_long_lived.specs.Inner.Held.{IsHeld, port_at};
-ghost use Rattle.partial_long_lived.specs.Inner.Calls.{IsIdle};
+ghost use Rattle.partial_long_lived.specs.Inner.Calls.{EpochSettled, IsIdle};
 ghost use Rattle.partial_long_lived.specs.Inner.DoubleCollect.{HasGlanced};
-ghost use Rattle.partial_long_lived.specs.Inner.Scans.{SettledFirst};
 ghost use Rattle.partial_long_lived.specs.Inner.Unchanged.{HadAnother, HadStamps, HasStamp};
 
 use crate::arena::{SEAL, public_stamp, see};
-use crate::enter::{enter, look};
+use crate::enter::settle;
 use crate::plays::{AtFirst, Later, ToGlance};
 use crate::rule::Words;
 use crate::stand::Stand;
@@ -19,12 +18,12 @@ pub fn unchanged(words: &Words, stand: &mut Stand, which: &[u32], stamps: &[u64]
     requires idle { IsIdle stand.old }
     requires lengths { length stamps.now ≡ length which.now }
     ensures held { IsHeld words.now.table_id words.now.key stand.new }
-    ensures settled { SettledFirst stand.old stand.new }
+    ensures settled { EpochSettled true stand.old stand.new }
     ensures had { result ≡ true → HadStamps (port_at stand.new) which.now stamps.now (length which.now) }
     ensures another { result ≡ false → HadAnother (port_at stand.new) which.now stamps.now }
     ensures steps { stand.new.seat.steps ≤ stand.old.seat.steps + (4 + 2 * length which.now) }
 {
-    settle_now(words, stand);
+    settle::<AtFirst>(words, stand);
     for k in 0..which.len() {
         if which[k] >= stand.shape.sizes.m() {
             return false;
@@ -34,19 +33,6 @@ pub fn unchanged(words: &Words, stand: &mut Stand, which: &[u32], stamps: &[u64]
         }
     }
     true
-}
-
-/// Enters the current epoch if the port's epoch has ended, as the first steps of a call.
-pub fn settle_now(words: &Words, stand: &mut Stand)
-    requires held { IsHeld words.now.table_id words.now.key stand.old }
-    requires idle { IsIdle stand.old }
-    ensures held { IsHeld words.now.table_id words.now.key stand.new }
-    ensures settled { SettledFirst stand.old stand.new }
-    ensures steps { stand.new.seat.steps ≤ stand.old.seat.steps + 4 }
-{
-    if !look::<AtFirst>(words, stand) {
-        enter(words, stand);
-    }
 }
 
 // Loads the public stamp of a component, in an epoch that was the current one during the call.

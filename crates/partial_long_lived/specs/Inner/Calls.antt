@@ -16,7 +16,7 @@ use Rattle.partial_long_lived.specs.declared.stand.Stand.{Stand}
 use Rattle.partial_long_lived.specs.Rule.{plan_of}
 use Rattle.partial_long_lived.specs.Inner.Steps.{SeatGoes}
 use Rattle.partial_long_lived.specs.Ports.{seen_in}
-use Rattle.partial_long_lived.specs.Inner.Moves.{SeatLooks}
+use Rattle.partial_long_lived.specs.Inner.Moves.{BeganBy, SeatLooks}
 use Rattle.partial_long_lived.specs.Inner.Loads.{opening_of}
 use Rattle.partial_long_lived.specs.Inner.Held.{port_at}
 
@@ -76,11 +76,11 @@ pub record HasCome (s t : Stand) : Type 0 where
       ⊎ ((s.epoch < t.epoch) × (core_of (port_at t).port.part ≡ fresh (port_at s).about.sizes (port_at s).number)
       × ((port_at t).port.over ≡ false))
 
--- The port has entered an epoch that was the current one during its call, and has noted nothing.
-pub record EpochSettled (s t : Stand) : Type 0 where
+-- The port has entered an epoch that was the current one during its call, perhaps by the first steps of the call, and has noted nothing.
+pub record EpochSettled (first : Bool) (s t : Stand) : Type 0 where
   pub come : HasCome s t
   pub notes : (port_at t).notes ≡ (port_at s).notes
-  pub began : (port_at t).began ≡ (port_at s).began
+  pub began : BeganBy first (port_at s) (port_at t).began
   pub fresh : (port_at t).began.epoch ≤ t.epoch
 
 -- The port has read: what it has noted is this answer, at the end of all that it has seen, which is not before its call began.

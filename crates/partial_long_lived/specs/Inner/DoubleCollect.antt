@@ -1,5 +1,5 @@
 -- A scan by a double collect: two equal collects of its components, and no announcement.
-use Rattle.std.specs.Prelude.{ℕ, ◌≡◌, ◌+◌, ◌<◌, ◌≤◌, ◌++◌, List, [], ◌∷◌, length, map, take, None, Some, slice_index}
+use Rattle.std.specs.Prelude.{true, ℕ, ◌≡◌, ◌+◌, ◌<◌, ◌≤◌, ◌++◌, List, [], ◌∷◌, length, map, take, None, Some, slice_index}
 use Rattle.std.specs.List.{AllByRecursion}
 use Rattle.partial_table.specs.Table.{Me}
 use Rattle.partial_model.specs.declared.history.Applied.{Applied}
@@ -19,8 +19,7 @@ use Rattle.partial_long_lived.specs.Ports.{seen_in}
 use Rattle.partial_long_lived.specs.Inner.Steps.{BeginsWith, tells}
 use Rattle.partial_long_lived.specs.Inner.Held.{port_at}
 use Rattle.partial_long_lived.specs.Inner.Loads.{Recalls, opening_of}
-use Rattle.partial_long_lived.specs.Inner.Calls.{HasCome, StaysAt}
-use Rattle.partial_long_lived.specs.Inner.Scans.{SettledFirst}
+use Rattle.partial_long_lived.specs.Inner.Calls.{EpochSettled, HasCome, StaysAt}
 
 -- each of these positions is one of a component
 abbrev pub AreInside : Layout → List ℕ → Type 0
@@ -98,6 +97,6 @@ pub record HasStayed (s t : Stand) : Type 0 where
 -- and has noted nothing.
 pub record HasBegunCollect (s t : Stand) (j w : ℕ) : Type 0 where
   pub stayed : HasStayed s t
-  pub settled : SettledFirst s t
+  pub settled : EpochSettled true s t
   pub there : WasThere (port_at t) 0 (length (port_at t).port.part.seen) j w
   pub time : (port_at t).began.length ≤ length (seen_in (port_at t).port)

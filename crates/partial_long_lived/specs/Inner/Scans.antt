@@ -1,5 +1,5 @@
 -- How a call of a port's machine begins, and what a scan leaves of its port.
-use Rattle.std.specs.Prelude.{ℕ, ◌≡◌, ◌<◌, ◌≤◌, ◌++◌, false, List, [], ◌∷◌, length, Option, Some}
+use Rattle.std.specs.Prelude.{ℕ, ◌≡◌, ◌<◌, ◌≤◌, ◌++◌, true, false, List, [], ◌∷◌, length, Option, Some}
 use Rattle.std.specs.Option.{option_map}
 use Rattle.partial_model.specs.declared.call.Call.{Call}
 use Rattle.partial_model.specs.declared.call.Answer.{Answer}
@@ -17,7 +17,7 @@ use Rattle.partial_long_lived.specs.Rule.{SeatedPort, plan_of}
 use Rattle.partial_long_lived.specs.Ports.{seen_in}
 use Rattle.partial_long_lived.specs.Inner.Steps.{SeatGoes}
 use Rattle.partial_long_lived.specs.Inner.Held.{port_at}
-use Rattle.partial_long_lived.specs.Inner.Calls.{HasCome, IsIdle, StaysAt}
+use Rattle.partial_long_lived.specs.Inner.Calls.{EpochSettled, IsIdle, StaysAt}
 use Rattle.partial_long_lived.specs.Inner.Machine.{over_by}
 use Rattle.partial_long_lived.specs.Inner.Under.{CallMade, claimed_end, machine_at}
 
@@ -31,16 +31,9 @@ pub record RestsUnmarked (x : SeatedPort) (core : CoreState) : Type 0 where
   pub slots : core.slots_spent ≡ false
   pub kept : x.port.over ≡ false → claimed_end core ≤ x.about.limit
 
--- By the first steps of a call the port has entered an epoch that was the current one during the call, and has noted nothing.
-pub record SettledFirst (s t : Stand) : Type 0 where
-  pub come : HasCome s t
-  pub notes : (port_at t).notes ≡ (port_at s).notes
-  pub first : length (seen_in (port_at s).port) ≤ (port_at t).began.length
-  pub fresh : (port_at t).began.epoch ≤ t.epoch
-
 -- By the first steps of a call the port has entered an epoch that opened during the call. It has noted nothing, and has seen nothing there.
 pub record EnteredYoung (s t : Stand) : Type 0 where
-  pub settled : SettledFirst s t
+  pub settled : EpochSettled true s t
   pub young : (port_at t).began.epoch < t.epoch
   pub none : (port_at t).port.part.seen ≡ []
 

@@ -1,5 +1,5 @@
 use Rattle.std.proofs.Common.{rules, tests}
-use Rattle.partial_long_lived.proofs.read.settle.Goals as goal
+use Rattle.partial_long_lived.proofs.enter.settle.Goals as goal
 
 pub returns-then-not-look-clause-settled : goal.returns-then-not-look-clause-settled
-returns-then-not-look-clause-settled c = search (tests, rules)
+returns-then-not-look-clause-settled g c = search (tests, rules)
