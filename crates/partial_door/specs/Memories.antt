@@ -1,5 +1,5 @@
 -- What the calls at the handle of a long-lived memory leave: opening, taking ports out and giving them back, and closing.
-use Rattle.std.specs.Prelude.{ℕ, ◌≡◌, ◌⊎◌, ◌+◌, ◌*◌, ◌<◌, ◌++◌, ◌==◌, List, [], ◌∷◌, length, Some, None, if◌then◌else◌}
+use Rattle.std.specs.Prelude.{ℕ, ◌≡◌, ◌⊎◌, ◌+◌, ◌*◌, ◌<◌, ◌≤◌, ◌++◌, ◌==◌, List, [], ◌∷◌, length, Some, None, if◌then◌else◌}
 use Rattle.std.specs.Arc.{arc_value}
 use Rattle.partial_words.specs.Layout.{first_free, pool_base}
 use Rattle.partial_long_lived.specs.declared.options.Options.{Options}
@@ -7,8 +7,8 @@ use Rattle.partial_long_lived.specs.declared.open_error.OpenError.{OpenError}
 use Rattle.partial_long_lived.specs.Rule.{newcomers}
 use Rattle.partial_long_lived.specs.Options.{MayNotOpen, announces_for, claimed_pool, layout_for, open_code}
 use Rattle.partial_long_lived.specs.Ports.{MemoryView, PortView, new_ports}
-use Rattle.partial_long_lived.specs.Calls.{Meets}
-use Rattle.partial_long_lived.specs.Closing.{Closes}
+use Rattle.partial_long_lived.specs.Calls.{MeetByTheRule, Meets}
+use Rattle.partial_long_lived.specs.Closing.{ClosesLawfully}
 use Rattle.partial_door.specs.declared.answers.ArenaSizes.{ArenaSizes}
 use Rattle.partial_door.specs.declared.held.OpenMemory.{OpenMemory}
 use Rattle.partial_door.specs.declared.held.OwnedPort.{OwnedPort}
@@ -106,9 +106,9 @@ IsReadyToClose (Held.Memory m) c =
 IsReadyToClose (Held.Closing d) c = c ≡ d
 IsReadyToClose _ c = ⊥
 
--- it is closed with all its ports, and these are its values
+-- it is closed with all its ports, and these are its values, after the history of a lawful state
 abbrev pub ClosesAt : Held → List ℕ → Type 0
-ClosesAt h values = (c : ClosingMemory) × IsReadyToClose h c × Closes c.memory (c.port ∷ c.rest.items) values
+ClosesAt h values = (c : ClosingMemory) × IsReadyToClose h c × ClosesLawfully c.memory (c.port ∷ c.rest.items) values
 
 -- a memory that was to be closed, with its ports
 pub record IsSameClosing (c d : ClosingMemory) : Type 0 where
@@ -144,12 +144,13 @@ abbrev pub ArePortsApart : Held → Held → Type 0
 ArePortsApart (Held.Port p) (Held.Port q) = q.number ≡ p.number → arc_value q.memory ≡ arc_value p.memory
 ArePortsApart _ _ = Unit {0}
 
--- two ports of one memory meet
+-- two ports of one memory meet, by the rule of its words, in so many steps at most
 abbrev pub MeetPorts : Held → Held → Held → Held → Type 0
 MeetPorts g h k l =
     (a : OwnedPort) × (b : OwnedPort) × (c : OwnedPort) × (d : OwnedPort)
     × (g ≡ Held.Port a) × (h ≡ Held.Port b) × (k ≡ Held.Port c) × (l ≡ Held.Port d)
     × (b.number ≡ a.number) × IsSameReference a c × IsSameReference b d × Meets a.port b.port c.port d.port
+    × MeetByTheRule c.port d.port × (c.port.steps + d.port.steps ≤ a.port.steps + b.port.steps + 12)
 
 -- why two don't meet: one is no port, or they are of two memories
 abbrev pub MayNotMeet : Held → Held → ℕ → Type 0

@@ -1,7 +1,7 @@
 //! The calls on the handle of a long-lived memory. A refused call returns the number of the refusal.
 
 ghost use Rattle.std.specs.Prelude.{◌≡◌, ◌∷◌, length, IfOk, IfErr};
-ghost use Rattle.partial_long_lived.specs.Closing.{Closes};
+ghost use Rattle.partial_long_lived.specs.Closing.{ClosesLawfully};
 ghost use Rattle.partial_door.specs.Belonging.{AreOf};
 ghost use Rattle.partial_door.specs.declared.held.Held.TheVariants as held;
 ghost use Rattle.partial_door.specs.Inner.Memories.{IsOpenOf, IsUnclosed, IsUnready};
@@ -208,7 +208,7 @@ impl ClosingMemory {
     // Closes the memory, and puts its values into `into`, which has room for just as many.
     fn close(self, alloc: Global, into: &mut [u64]) -> Result<(), ClosingMemory>
         requires { length into.old ≡ self.components }
-        ensures ok { IfOk result (λ _. Closes self.memory (self.port ∷ self.rest.items) into.new) }
+        ensures ok { IfOk result (λ _. ClosesLawfully self.memory (self.port ∷ self.rest.items) into.new) }
         ensures err { IfErr result (λ kept. IsSameClosing self kept × (into.new ≡ into.old)) }
     {
         let ClosingMemory {

@@ -1,4 +1,3 @@
-use Rattle.std.specs.Prelude.{IfOk, IfErr}
 use Rattle.partial_long_lived.specs.declared.options.Options.{Options}
 use Rattle.partial_door.specs.Memories.{HoldsNew, MayNotBeNew}
 use Rattle.partial_door.proofs.Common.{refl, inl, inr, subst}

@@ -18,6 +18,8 @@ returns c =
         record { number = refl; memory = refl },
         record { number = refl; memory = refl },
         c.meet.ensures.met,
+        c.meet.ensures.lawful,
+        c.meet.ensures.steps,
       ),
     )
 
