@@ -58,6 +58,7 @@ ALLOWED = [
     ('partial_long_lived/src/calls.rt', ['4 + 2 * length which.now'], BOUND),
     ('partial_long_lived/src/double_collect.rt', ['3 * length which.now + 1'], BOUND),
     ('partial_long_lived/src/unchanged.rt', ['4 + 2 * length which.now'], BOUND),
+    ('partial_door/specs/Calls.antt', ['4 + 2 * length which'], BOUND),
     ('partial_picture/src/words.rt', ['word - m - 4'], 'the number of a slot, by its word'),
     ('partial_picture/specs/Words.antt', ['w - s.m - 4'], 'the number of a slot, by its word'),
     ('partial_pipeline/specs/Stages.antt', ['m.about.sizes.m + 1'], 'a port for each component, and one more'),
